@@ -1,0 +1,17 @@
+//! What every crate of the suite stands on: lists of bytes, the outside as a source, a sink and a
+//! store of files, and words of 32 bits.
+#![tactic(auto)]
+
+mod bytes;
+mod numbers;
+mod outside;
+mod words;
+
+pub use bytes::{Bytes, Calls, Entry, Name, NoMemory, Words};
+pub use numbers::{field, get32, put32, sext8, sext16};
+pub use outside::{FileFault, Files, Got, Put, Sink, Source, Took};
+pub use words::{
+    is_negative, is_signed_less, low8, low16, shift_left, shift_right, shift_right_signed,
+    signed_product, signed_quotient, signed_remainder, unsigned_product, word_and, word_complement,
+    word_difference, word_negation, word_nor, word_or, word_product, word_sum, word_xor,
+};
