@@ -1,3 +1,5 @@
 pub mod Words
 pub mod Numbers
 pub mod Outside
+pub mod Calls
+pub mod Memory

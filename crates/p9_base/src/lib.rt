@@ -2,12 +2,16 @@
 //! store of files, and words of 32 bits.
 #![tactic(auto)]
 
+mod adapters;
 mod bytes;
+mod memory;
 mod numbers;
 mod outside;
 mod words;
 
+pub use adapters::{HostFiles, ReadSource, WriteSink};
 pub use bytes::{Bytes, Calls, Entry, Name, NoMemory, Words};
+pub use memory::{MemFiles, MemSink, MemSource};
 pub use numbers::{field, get32, put32, sext8, sext16};
 pub use outside::{FileFault, Files, Got, Put, Sink, Source, Took};
 pub use words::{

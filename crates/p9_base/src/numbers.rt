@@ -15,11 +15,7 @@ pub fn sext16(w: u32) -> u32
     ensures { result ≡ sign_extended 16 w }
 {
     let low = w % 0x1_0000;
-    if low < 0x8000 {
-        low
-    } else {
-        low + 0xFFFF_0000
-    }
+    if low < 0x8000 { low } else { low + 0xFFFF_0000 }
 }
 
 /// `count` bits from bit `low`, which counts from the least.

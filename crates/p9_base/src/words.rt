@@ -69,7 +69,10 @@ pub fn signed_quotient(a: u32, b: u32) -> u32
     requires { b ≢ 0 }
     ensures { result ≡ signed_quotient a b }
 {
-    with_sign(is_negative(a) != is_negative(b), magnitude(a) / magnitude(b))
+    with_sign(
+        is_negative(a) != is_negative(b),
+        magnitude(a) / magnitude(b),
+    )
 }
 
 /// The remainder of that quotient, with the dividend's sign.
