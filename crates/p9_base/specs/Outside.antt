@@ -28,6 +28,9 @@ TakeCause before now (took.TheVariants.Got n) = now ≡ before
 TakeCause before now took.TheVariants.End = now ≡ before
 TakeCause before now took.TheVariants.Failed = Rose before now
 
+abbrev pub TakeCounts : ℕ → TakeCall → ℕ → Type 0
+TakeCounts before (Take room filled answer) now = TakeCause before now answer
+
 -- what a call means for the content and the count of a source
 abbrev pub TakeMeans : Option (List ℕ) → ℕ → TakeCall → Option (List ℕ) → ℕ → Type 0
 TakeMeans left before (Take room filled answer) later now = Takes left later room filled answer × TakeCause before now answer
@@ -46,6 +49,9 @@ Puts sofar later piece put.TheVariants.Failed = later ≡ sofar
 abbrev pub PutCause : ℕ → ℕ → put.Put → Type 0
 PutCause before now (put.TheVariants.Wrote n) = now ≡ before
 PutCause before now put.TheVariants.Failed = Rose before now
+
+abbrev pub PutCounts : ℕ → PutCall → ℕ → Type 0
+PutCounts before (PutPiece piece answer) now = PutCause before now answer
 
 -- what a call means for the content and the count of a sink
 abbrev pub PutMeans : Option (List ℕ) → ℕ → PutCall → Option (List ℕ) → ℕ → Type 0
@@ -94,6 +100,10 @@ abbrev pub WriteCause : ℕ → ℕ → Result (Unit {0}) fault.FileFault → Ty
 WriteCause before now (Ok _) = now ≡ before
 WriteCause before now (Err fault.TheVariants.Failed) = Rose before now
 WriteCause before now (Err fault.TheVariants.NoMemory) = now ≡ before
+
+abbrev pub FileCounts : ℕ → FileCall → ℕ → Type 0
+FileCounts before (ReadCall name answer) now = ReadCause before now answer
+FileCounts before (WriteCall name bytes answer) now = WriteCause before now answer
 
 -- what a call means for the content and the count of a store
 abbrev pub FileMeans : Option Held → ℕ → FileCall → Option Held → ℕ → Type 0
