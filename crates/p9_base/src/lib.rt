@@ -7,6 +7,8 @@ mod bytes;
 mod memory;
 mod numbers;
 mod outside;
+#[cfg(test)]
+mod tests;
 mod words;
 
 pub use adapters::{HostFiles, ReadSource, WriteSink};
