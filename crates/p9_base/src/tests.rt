@@ -94,6 +94,7 @@ fn memory_files_keep_what_is_written(rt: HostRuntime) -> Result<(), Fail> {
     };
     let mut files = MemFiles::new(vec![in alloc; entry]?, calls(alloc, &[1])?);
     let (a, b) = (bytes(alloc, b"a")?, bytes(alloc, b"b")?);
+    assert!(rt; a == bytes(alloc, b"a")? && a != b);
     assert!(rt; matches!(files.write(alloc, &b, &a), Ok(())));
     assert!(rt; matches!(files.write(alloc, &b, &b), Err(FileFault::Failed)));
     assert!(rt;
