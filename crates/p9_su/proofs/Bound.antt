@@ -22,29 +22,33 @@ some_same x y e = cc
 pub load_step : (whole : Shape) (count : ℕ) (before : Registers) (leaf register : ℕ) (at : Place) → slice_get (leaf_places whole []) leaf ≡ Some at → IsStep whole count before (with_content before register (Some at))
 load_step whole count before leaf register at found = record {
   sons = λ place tree stands inner holds.
-    elim (content_cases before register (Some at) holds.register) [
-        inl here ↦
+      elim (content_cases before register (Some at) holds.register) [
+        | inl here ↦
             let same : at ≡ place = some_same at place (sym here.1 ∙ holds.content) in
             let is_leaf : subtree_at whole place ≡ Some Leaf = subst (λ q. subtree_at whole q ≡ Some Leaf) same (leaf_stands whole leaf at found) in
             absurd (inner (some_same tree Leaf (sym stands ∙ is_leaf)))
-      | inr apart ↦ inl (record { register = holds.register; within = holds.within; content = sym apart.1 ∙ holds.content }) ]
+        | inr apart ↦ inl (record { register = holds.register; within = holds.within; content = sym apart.1 ∙ holds.content })
+      ];
 }
 
 pub combine_step : (whole : Shape) (count : ℕ) (before : Registers) (into with : ℕ) (at : Place) → into < count → with < count → AreSons at (before into) (before with) → IsStep whole count before (with_content (with_content before with None) into (Some at))
 combine_step whole count before into with at below_into below_with are = record {
   sons = λ place tree stands inner holds.
-    elim (content_cases (with_content before with None) into (Some at) holds.register) [
-        inl here ↦
+      elim (content_cases (with_content before with None) into (Some at) holds.register) [
+        | inl here ↦
             let same : at ≡ place = some_same at place (sym here.1 ∙ holds.content) in
             inr (subst (λ q. Holds before count (Left ∷ q) × Holds before count (Right ∷ q)) same
-              (elim are [
-                inl so ↦ (record { register = into; within = below_into; content = so.0 }, record { register = with; within = below_with; content = so.1 })
-              | inr so ↦ (record { register = with; within = below_with; content = so.1 }, record { register = into; within = below_into; content = so.0 }) ]))
-      | inr apart ↦
+            (elim are [
+              | inl so ↦ (record { register = into; within = below_into; content = so.0 }, record { register = with; within = below_with; content = so.1 })
+              | inr so ↦ (record { register = with; within = below_with; content = so.1 }, record { register = into; within = below_into; content = so.0 })
+            ]))
+        | inr apart ↦
             let after : with_content before with None holds.register ≡ Some place = sym apart.1 ∙ holds.content in
             elim (content_cases before with None holds.register) [
-                inl here ↦ let none : None ≡ Some place = sym here.1 ∙ after in absurd (cc)
-              | inr other ↦ inl (record { register = holds.register; within = holds.within; content = sym other.1 ∙ after }) ] ]
+              | inl here ↦ let none : None ≡ Some place = sym here.1 ∙ after in absurd (cc)
+              | inr other ↦ inl (record { register = holds.register; within = holds.within; content = sym other.1 ∙ after })
+            ]
+      ];
 }
 
 -- A past: the states after the first one, the newest first
@@ -84,14 +88,14 @@ past_of whole count start states past [] end below leads = record { states = sta
 past_of whole count start states past (Load leaf register ∷ rest) end below leads =
     let now : Registers = newest start states in
     past_of whole count start (with_content now register (Some leads.0) ∷ states)
-      (load_step whole count now leaf register leads.0 leads.1, past)
-      rest end (All-tail (UsesBelow count) (Load leaf register) rest below) leads.3
+    (load_step whole count now leaf register leads.0 leads.1, past)
+    rest end (All-tail (UsesBelow count) (Load leaf register) rest below) leads.3
 past_of whole count start states past (Combine into with ∷ rest) end below leads =
     let now : Registers = newest start states in
     let here : UsesBelow count (Combine into with) = All-head (UsesBelow count) (Combine into with) rest below in
     past_of whole count start (with_content (with_content now with None) into (Some leads.0) ∷ states)
-      (combine_step whole count now into with leads.0 here.0 here.1 leads.1, past)
-      rest end (All-tail (UsesBelow count) (Combine into with) rest below) leads.2
+    (combine_step whole count now into with leads.0 here.0 here.1 leads.1, past)
+    rest end (All-tail (UsesBelow count) (Combine into with) rest below) leads.2
 
 -- the past up to the time at which a pair's sons were both in registers
 pub record SonsHeld (whole : Shape) (count : ℕ) (start : Registers) (place : Place) (P : Registers → Type 0) : Type 0 where
@@ -107,8 +111,9 @@ sons_held whole count start place tree stands inner free P [] past each holds =
     absurd (omega arith)
 sons_held whole count start place tree stands inner free P (state ∷ states) past each holds =
     elim (past.0.sons place tree stands inner holds) [
-        inl before ↦ sons_held whole count start place tree stands inner free P states past.1 each.1 before
-      | inr both ↦ record { states = states; past = past.1; each = each.1; left = both.0; right = both.1 } ]
+      | inl before ↦ sons_held whole count start place tree stands inner free P states past.1 each.1 before
+      | inr both ↦ record { states = states; past = past.1; each = each.1; left = both.0; right = both.1 }
+    ]
 
 -- the past since the last time at which one of two counts was 0
 pub record Since (whole : Shape) (count : ℕ) (P : Registers → Type 0) (one other : Registers → ℕ) (end : Registers) : Type 0 where
@@ -130,7 +135,7 @@ since whole count P one other start [] past each none some_one some_other =
     elim none [ inl h ↦ absurd (omega arith) | inr h ↦ absurd (omega arith) ]
 since whole count P one other start (state ∷ states) past each none some_one some_other =
     elim (zero_or_more (one (newest start states)) (other (newest start states))) [
-        inl now ↦ record { start = newest start states; states = state ∷ []; past = (past.0, tt); each = (each.0, tt); reached = refl; none = now; some = ((some_one, some_other), tt) }
+      | inl now ↦ record { start = newest start states; states = state ∷ []; past = (past.0, tt); each = (each.0, tt); reached = refl; none = now; some = ((some_one, some_other), tt) }
       | inr busy ↦
           let rest : Since whole count P one other (newest start states) = since whole count P one other start states past.1 each.1 none busy.0 busy.1 in
           record {
@@ -140,8 +145,9 @@ since whole count P one other start (state ∷ states) past each none some_one s
             each = (each.0, rest.each);
             reached = refl;
             none = rest.none;
-            some = ((some_one, some_other), rest.some)
-          } ]
+            some = ((some_one, some_other), rest.some);
+          }
+    ]
 
 -- The bound
 
@@ -151,16 +157,18 @@ number_positive (Pair' p left q right) =
     let a : 0 < number_of left = number_positive left in
     let b : 0 < number_of right = number_positive right in
     elim (eqb_tells (number_of left) (number_of right)) [
-        inl same ↦ rw same.0 (omega arith)
-      | inr differs ↦ rw differs.0 (omega arith) ]
+      | inl same ↦ rw same.0 (omega arith)
+      | inr differs ↦ rw differs.0 (omega arith)
+    ]
 
 joined_most : (a b k : ℕ) → 0 < a → 0 < b → a ≤ k → b ≤ k → (a ≤ k - 1) ⊎ (b ≤ k - 1) → joined_number a b ≤ k
 joined_most a b k pa pb ak bk less =
     elim (eqb_tells a b) [
-        inl same ↦
+      | inl same ↦
           let equal : a ≡ b = same.1 in
           rw same.0 (elim less [ inl h ↦ omega arith | inr h ↦ omega arith ])
-      | inr differs ↦ rw differs.0 (omega arith) ]
+      | inr differs ↦ rw differs.0 (omega arith)
+    ]
 
 AtMost : Place → ℕ → ℕ → Registers → Type 0
 AtMost place count most state = held place count state ≤ most
@@ -186,19 +194,20 @@ bound whole count (Pair' p left q right) place most stands start states past fre
     let most_left : number_of left ≤ most = bound whole count left (Left ∷ place) most stands_left start until.states until.past free_left (each_weaker (λ s. held place count s ≤ most) (λ s. held (Left ∷ place) count s ≤ most) (λ s h. omega (arith, sums s)) until.states until.each) until.left in
     let most_right : number_of right ≤ most = bound whole count right (Right ∷ place) most stands_right start until.states until.past free_right (each_weaker (λ s. held place count s ≤ most) (λ s. held (Right ∷ place) count s ≤ most) (λ s h. omega (arith, sums s)) until.states until.each) until.right in
     let last : Since whole count (λ s. held place count s ≤ most) (held (Left ∷ place) count) (held (Right ∷ place) count) (newest start until.states) =
-        since whole count (λ s. held place count s ≤ most) (held (Left ∷ place) count) (held (Right ∷ place) count) start until.states until.past until.each (inl free_left)
-          (held_some (Left ∷ place) count (newest start until.states) until.left.register until.left.within until.left.content)
-          (held_some (Right ∷ place) count (newest start until.states) until.right.register until.right.within until.right.content) in
+    since whole count (λ s. held place count s ≤ most) (held (Left ∷ place) count) (held (Right ∷ place) count) start until.states until.past until.each (inl free_left)
+    (held_some (Left ∷ place) count (newest start until.states) until.left.register until.left.within until.left.content)
+    (held_some (Right ∷ place) count (newest start until.states) until.right.register until.right.within until.right.content) in
     let both : Each (λ s. (held place count s ≤ most) × ((0 < held (Left ∷ place) count s) × (0 < held (Right ∷ place) count s))) last.states =
-        each_both (λ s. held place count s ≤ most) (λ s. (0 < held (Left ∷ place) count s) × (0 < held (Right ∷ place) count s)) last.states last.each last.some in
+    each_both (λ s. held place count s ≤ most) (λ s. (0 < held (Left ∷ place) count s) × (0 < held (Right ∷ place) count s)) last.states last.each last.some in
     let less : (number_of left ≤ most - 1) ⊎ (number_of right ≤ most - 1) =
-        elim last.none [
-            inl none ↦ inl (bound whole count left (Left ∷ place) (most - 1) stands_left last.start last.states last.past none
-              (each_weaker (λ s. (held place count s ≤ most) × ((0 < held (Left ∷ place) count s) × (0 < held (Right ∷ place) count s))) (λ s. held (Left ∷ place) count s ≤ most - 1) (λ s h. omega (arith, sums s, h.0, h.1.1)) last.states both)
-              (subst (λ s. Holds s count (Left ∷ place)) (sym last.reached) until.left))
-          | inr none ↦ inr (bound whole count right (Right ∷ place) (most - 1) stands_right last.start last.states last.past none
-              (each_weaker (λ s. (held place count s ≤ most) × ((0 < held (Left ∷ place) count s) × (0 < held (Right ∷ place) count s))) (λ s. held (Right ∷ place) count s ≤ most - 1) (λ s h. omega (arith, sums s, h.0, h.1.0)) last.states both)
-              (subst (λ s. Holds s count (Right ∷ place)) (sym last.reached) until.right)) ] in
+    elim last.none [
+      | inl none ↦ inl (bound whole count left (Left ∷ place) (most - 1) stands_left last.start last.states last.past none
+          (each_weaker (λ s. (held place count s ≤ most) × ((0 < held (Left ∷ place) count s) × (0 < held (Right ∷ place) count s))) (λ s. held (Left ∷ place) count s ≤ most - 1) (λ s h. omega (arith, sums s, h.0, h.1.1)) last.states both)
+          (subst (λ s. Holds s count (Left ∷ place)) (sym {a = newest last.start last.states} last.reached) until.left))
+      | inr none ↦ inr (bound whole count right (Right ∷ place) (most - 1) stands_right last.start last.states last.past none
+          (each_weaker (λ s. (held place count s ≤ most) × ((0 < held (Left ∷ place) count s) × (0 < held (Right ∷ place) count s))) (λ s. held (Right ∷ place) count s ≤ most - 1) (λ s h. omega (arith, sums s, h.0, h.1.0)) last.states both)
+          (subst (λ s. Holds s count (Right ∷ place)) (sym {a = newest last.start last.states} last.reached) until.right))
+    ] in
     joined_most (number_of left) (number_of right) most (number_positive left) (number_positive right) most_left most_right less
 
 held_none : (place : Place) (count : ℕ) → held place count all_free ≡ 0
@@ -215,8 +224,8 @@ play_bound shape count moves play =
     let had : HasPast shape count all_free play.root.0 = past_of shape count all_free [] tt moves play.root.0 play.registers play.root.2 in
     let holds : Holds play.root.0 count [] = record { register = play.root.1; within = play.root.3; content = play.root.4 } in
     bound shape count shape [] count refl all_free had.states had.past (held_none [] count)
-      (each_state (λ s. held [] count s ≤ count) (held_most [] count) had.states)
-      (subst (λ s. Holds s count []) (sym had.reached) holds)
+    (each_state (λ s. held [] count s ≤ count) (held_most [] count) had.states)
+    (subst (λ s. Holds s count []) (sym {a = newest all_free had.states} had.reached) holds)
 
 pub number_least : (shape : Shape) (count : ℕ) → CanBePlayed shape count → number_of shape ≤ count
 number_least shape count can = play_bound shape count can.0 can.1

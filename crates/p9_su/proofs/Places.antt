@@ -30,8 +30,8 @@ leaves_stand whole Leaf place e =
     let P : Place → Type 0 = λ q. subtree_at whole q ≡ Some Leaf in All-cons P place [] e (All-nil P)
 leaves_stand whole (Pair' p left q right) place e =
     All-append (λ r. subtree_at whole r ≡ Some Leaf) (leaf_places left (Left ∷ place)) (leaf_places right (Right ∷ place))
-        (leaves_stand whole left (Left ∷ place) (subtree_at_son whole place Left (Some (Pair' p left q right)) e))
-        (leaves_stand whole right (Right ∷ place) (subtree_at_son whole place Right (Some (Pair' p left q right)) e))
+    (leaves_stand whole left (Left ∷ place) (subtree_at_son whole place Left (Some (Pair' p left q right)) e))
+    (leaves_stand whole right (Right ∷ place) (subtree_at_son whole place Right (Some (Pair' p left q right)) e))
 
 pub All-slice_get : {X : Type 0} (P : X → Type 0) (xs : List X) (k : ℕ) (x : X) → All P xs → slice_get xs k ≡ Some x → P x
 All-slice_get P [] k x all e = absurd (cc)
@@ -106,38 +106,43 @@ pub is_below_son : (side : Side) (p q : Place) → is_below (side ∷ p) q ≡ t
 is_below_son side p [] e = absurd (cc)
 is_below_son side p (b ∷ q) e =
     elim (or_cases (same_place (side ∷ p) (b ∷ q)) (is_below (side ∷ p) q) e) [
-        inl here ↦
-            let tails : p ≡ q = same_place_eq p q (and_parts (same_side side b) (same_place p q) here).1 in
-            or_right (same_place p (b ∷ q)) (is_below p q) (subst (λ r. is_below p r ≡ true) tails (is_below_refl p))
-      | inr deeper ↦ or_right (same_place p (b ∷ q)) (is_below p q) (is_below_son side p q deeper) ]
+      | inl here ↦
+          let tails : p ≡ q = same_place_eq p q (and_parts (same_side side b) (same_place p q) here).1 in
+          or_right (same_place p (b ∷ q)) (is_below p q) (subst (λ r. is_below p r ≡ true) tails (is_below_refl p))
+      | inr deeper ↦ or_right (same_place p (b ∷ q)) (is_below p q) (is_below_son side p q deeper)
+    ]
 
 pub is_below_length : (p q : Place) → is_below p q ≡ true → length p ≤ length q
 is_below_length p [] e = let same : p ≡ [] = same_place_eq p [] e in rw same (omega arith)
 is_below_length p (b ∷ q) e =
     elim (or_cases (same_place p (b ∷ q)) (is_below p q) e) [
-        inl here ↦ let same : p ≡ b ∷ q = same_place_eq p (b ∷ q) here in rw same (omega arith)
-      | inr deeper ↦ let shorter : length p ≤ length q = is_below_length p q deeper in omega arith ]
+      | inl here ↦ let same : p ≡ b ∷ q = same_place_eq p (b ∷ q) here in rw same (omega arith)
+      | inr deeper ↦ let shorter : length p ≤ length q = is_below_length p q deeper in omega arith
+    ]
 
 -- nothing stands below two places of one length that are not the same
 pub one_above : (p q r : Place) → length p ≡ length q → is_below p r ≡ true → is_below q r ≡ true → p ≡ q
 one_above p q [] e hp hq = same_place_eq p [] hp ∙ sym (same_place_eq q [] hq)
 one_above p q (b ∷ r) e hp hq =
     elim (or_cases (same_place p (b ∷ r)) (is_below p r) hp) [
-        inl here ↦
-            let first : p ≡ b ∷ r = same_place_eq p (b ∷ r) here in
-            elim (or_cases (same_place q (b ∷ r)) (is_below q r) hq) [
-                inl also ↦ first ∙ sym (same_place_eq q (b ∷ r) also)
-              | inr deeper ↦
-                  let shorter : length q ≤ length r = is_below_length q r deeper in
-                  let long : length p ≡ suc (length r) = ap length first in
-                  absurd (omega arith) ]
+      | inl here ↦
+          let first : p ≡ b ∷ r = same_place_eq p (b ∷ r) here in
+          elim (or_cases (same_place q (b ∷ r)) (is_below q r) hq) [
+            | inl also ↦ first ∙ sym (same_place_eq q (b ∷ r) also)
+            | inr deeper ↦
+                let shorter : length q ≤ length r = is_below_length q r deeper in
+                let long : length p ≡ suc (length r) = ap length first in
+                absurd (omega arith)
+          ]
       | inr deeper ↦
-            let shorter : length p ≤ length r = is_below_length p r deeper in
-            elim (or_cases (same_place q (b ∷ r)) (is_below q r) hq) [
-                inl also ↦
-                  let long : length q ≡ suc (length r) = ap length (same_place_eq q (b ∷ r) also) in
-                  absurd (omega arith)
-              | inr also ↦ one_above p q r e deeper also ] ]
+          let shorter : length p ≤ length r = is_below_length p r deeper in
+          elim (or_cases (same_place q (b ∷ r)) (is_below q r) hq) [
+            | inl also ↦
+                let long : length q ≡ suc (length r) = ap length (same_place_eq q (b ∷ r) also) in
+                absurd (omega arith)
+            | inr also ↦ one_above p q r e deeper also
+          ]
+    ]
 
 pub not_both : (p q : Place) → is_below (Left ∷ p) q ≡ true → is_below (Right ∷ p) q ≡ true → ⊥
 not_both p q left right =
@@ -193,21 +198,23 @@ pub held_some : (p : Place) (count : ℕ) (registers : Registers) (register : �
 held_some p zero registers register within content = absurd (omega arith)
 held_some p (suc count) registers register within content =
     elim (eqb_tells register count) [
-        inl here ↦
-            let at : registers count ≡ Some p = ap registers (sym here.1) ∙ content in
-            let one : holds_below p (registers count) ≡ 1 = rw at (rw (is_below_refl p) refl) in
-            omega (arith, one)
+      | inl here ↦
+          let at : registers count ≡ Some p = ap registers (sym here.1) ∙ content in
+          let one : holds_below p (registers count) ≡ 1 = rw at (rw (is_below_refl p) refl) in
+          omega (arith, one)
       | inr other ↦
-            let apart : register ≢ count = other.1 in
-            let rest : 0 < held p count registers = held_some p count registers register (omega arith) content in
-            omega (arith, rest) ]
+          let apart : register ≢ count = other.1 in
+          let rest : 0 < held p count registers = held_some p count registers register (omega arith) content in
+          omega (arith, rest)
+    ]
 
 -- the content of a register after another, or the same, has got other content
 pub content_cases : (registers : Registers) (register : ℕ) (content : Option Place) (other : ℕ) → ((other ≡ register) × (with_content registers register content other ≡ content)) ⊎ ((other ≢ register) × (with_content registers register content other ≡ registers other))
 content_cases registers register content other =
     elim (eqb_tells other register) [
-        inl same ↦ inl (same.1, ap (λ b. cond b content (registers other)) same.0)
-      | inr apart ↦ inr (apart.1, ap (λ b. cond b content (registers other)) apart.0) ]
+      | inl same ↦ inl (same.1, ap (λ b. cond b content (registers other)) same.0)
+      | inr apart ↦ inr (apart.1, ap (λ b. cond b content (registers other)) apart.0)
+    ]
 
 pub content_same : (registers : Registers) (register : ℕ) (content : Option Place) → with_content registers register content register ≡ content
 content_same registers register content =

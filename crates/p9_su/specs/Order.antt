@@ -4,7 +4,7 @@ use Rattle.p9_su.specs.declared.shapes.Shape.{Shape, Leaf, Pair'}
 use Rattle.p9_su.specs.declared.moves.Move.{Move}
 use Rattle.p9_su.specs.declared.moves.Move.TheVariants.{Load, Combine}
 use Rattle.p9_su.specs.declared.plans.Label.{Label}
-use Rattle.p9_su.specs.Shapes.{leaves_of, number_of}
+use Rattle.p9_su.specs.Shapes.{leaves_of, number_of, joined_number}
 
 -- the moves that leave a shape's value in a register, with its first leaf's number
 abbrev pub moves_of : Shape → (leaf register : ℕ) → List Move
@@ -14,6 +14,10 @@ moves_of (Pair' p left q right) leaf register =
     then moves_of left leaf register ++ moves_of right (leaf + leaves_of left) (register + 1)
     else moves_of right (leaf + leaves_of left) register ++ moves_of left leaf (register + 1))
     ++ Combine register (register + 1) ∷ []
+
+-- the label of a node whose sons have these labels
+abbrev pub joined_label : Label → Label → Label
+joined_label left right = record { number = joined_number left.number right.number; leaves = left.leaves + right.leaves }
 
 abbrev pub label_of : Shape → Label
 label_of shape = record { number = number_of shape; leaves = leaves_of shape }

@@ -2,7 +2,7 @@
 ghost use Rattle.std.specs.Prelude.{◌≡◌, ◌+◌, ◌*◌, ◌^◌, ◌<◌, ◌≤◌, ◌++◌, length, IfOk, OnOk};
 ghost use Rattle.p9_su.specs.Shapes.{leaves_of, number_of};
 ghost use Rattle.p9_su.specs.Game.{IsPlay};
-ghost use Rattle.p9_su.specs.Order.{label_of, labels_of, moves_of};
+ghost use Rattle.p9_su.specs.Order.{joined_label, label_of, labels_of, moves_of};
 
 use crate::moves::{Move, Plan};
 use crate::shapes::Shape;
@@ -18,6 +18,7 @@ struct Label {
 
 /// A play on the shape with as few registers as there can be. A shape of 2^32 leaves is answered as
 /// one for which there is no memory.
+#[tactic(auto, using(crate::proofs::Plays::order_is_play))]
 pub fn order(alloc: Global, shape: &Shape) -> Result<Plan, NoMemory>
     requires { number_of shape.now ≤ 8 }
     ensures { IfOk result (λ plan. IsPlay shape.now plan.moves.items (number_of shape.now)) }
@@ -51,7 +52,10 @@ fn add_labels(shape: &Shape, labels: &mut Vec<Label>) -> Result<Label, NoMemory>
 }
 
 // The label of a node whose sons have these labels.
-fn joined(left: Label, right: Label) -> Result<Label, NoMemory> {
+fn joined(left: Label, right: Label) -> Result<Label, NoMemory>
+    requires { left.number ≤ 8 }
+    ensures { IfOk result (λ label. label ≡ joined_label left right) }
+{
     let leaves = left.leaves.checked_add(right.leaves).ok_or(NoMemory)?;
     let number = if left.number == right.number {
         left.number + 1
@@ -59,6 +63,14 @@ fn joined(left: Label, right: Label) -> Result<Label, NoMemory> {
         left.number.max(right.number)
     };
     Ok(Label { number, leaves })
+}
+
+// How many nodes a shape with this label has.
+fn nodes_of(label: Label) -> usize
+    requires { 1 ≤ label.leaves }
+    ensures { result + 1 ≡ 2 * label.leaves }
+{
+    2 * label.leaves as usize - 1
 }
 
 // Adds the moves that leave the shape's value in a register, where the shape's nodes have these
@@ -82,9 +94,7 @@ fn add_moves(
         Shape::Pair(left, right) => {
             let sons = &labels[..labels.len() - 1];
             let right_label = sons[sons.len() - 1];
-            let (left_labels, right_labels) = sons.split_at(
-                sons.len() + 1 - 2 * right_label.leaves as usize,
-            );
+            let (left_labels, right_labels) = sons.split_at(sons.len() - nodes_of(right_label));
             let left_label = left_labels[left_labels.len() - 1];
             let right_leaf = leaf + left_label.leaves;
             if right_label.number <= left_label.number {
