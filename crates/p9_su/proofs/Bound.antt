@@ -170,8 +170,8 @@ joined_most a b k pa pb ak bk less =
       | inr differs ↦ rw differs.0 (omega arith)
     ]
 
-AtMost : Place → ℕ → ℕ → Registers → Type 0
-AtMost place count most state = held place count state ≤ most
+holds_at : (now end : Registers) (count : ℕ) (place : Place) → now ≡ end → Holds end count place → Holds now count place
+holds_at now end count place same holds = record { register = holds.register; within = holds.within; content = ap (λ s. s holds.register) same ∙ holds.content }
 
 -- where at most so many registers hold values below a place until the value of its shape is made, the
 -- shape's number is at most as many
@@ -203,10 +203,10 @@ bound whole count (Pair' p left q right) place most stands start states past fre
     elim last.none [
       | inl none ↦ inl (bound whole count left (Left ∷ place) (most - 1) stands_left last.start last.states last.past none
           (each_weaker (λ s. (held place count s ≤ most) × ((0 < held (Left ∷ place) count s) × (0 < held (Right ∷ place) count s))) (λ s. held (Left ∷ place) count s ≤ most - 1) (λ s h. omega (arith, sums s, h.0, h.1.1)) last.states both)
-          (subst (λ s. Holds s count (Left ∷ place)) (sym {a = newest last.start last.states} last.reached) until.left))
+          (holds_at (newest last.start last.states) (newest start until.states) count (Left ∷ place) last.reached until.left))
       | inr none ↦ inr (bound whole count right (Right ∷ place) (most - 1) stands_right last.start last.states last.past none
           (each_weaker (λ s. (held place count s ≤ most) × ((0 < held (Left ∷ place) count s) × (0 < held (Right ∷ place) count s))) (λ s. held (Right ∷ place) count s ≤ most - 1) (λ s h. omega (arith, sums s, h.0, h.1.0)) last.states both)
-          (subst (λ s. Holds s count (Right ∷ place)) (sym {a = newest last.start last.states} last.reached) until.right))
+          (holds_at (newest last.start last.states) (newest start until.states) count (Right ∷ place) last.reached until.right))
     ] in
     joined_most (number_of left) (number_of right) most (number_positive left) (number_positive right) most_left most_right less
 
@@ -225,7 +225,7 @@ play_bound shape count moves play =
     let holds : Holds play.root.0 count [] = record { register = play.root.1; within = play.root.3; content = play.root.4 } in
     bound shape count shape [] count refl all_free had.states had.past (held_none [] count)
     (each_state (λ s. held [] count s ≤ count) (held_most [] count) had.states)
-    (subst (λ s. Holds s count []) (sym {a = newest all_free had.states} had.reached) holds)
+    (holds_at (newest all_free had.states) play.root.0 count [] had.reached holds)
 
 pub number_least : (shape : Shape) (count : ℕ) → CanBePlayed shape count → number_of shape ≤ count
 number_least shape count can = play_bound shape count can.0 can.1

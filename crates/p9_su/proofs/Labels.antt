@@ -54,7 +54,7 @@ pub sons_labels : (labels : List Label) (shape left right : Shape) (p q : _) →
 sons_labels labels shape left right p q labelled is =
     let whole : labels ≡ (labels_of left ++ labels_of right) ++ label_of (Pair' p left q right) ∷ [] = labelled ∙ ap labels_of is in
     rw whole (take_all_but (labels_of left ++ labels_of right) (label_of (Pair' p left q right) ∷ []) (length ((labels_of left ++ labels_of right) ++ label_of (Pair' p left q right) ∷ []) - 1)
-      (omega (arith, length-append (labels_of left ++ labels_of right) (label_of (Pair' p left q right) ∷ []))))
+    (omega (arith, length-append (labels_of left ++ labels_of right) (label_of (Pair' p left q right) ∷ []))))
 
 pub some_labels : (shape : Shape) → 0 < length (labels_of shape)
 some_labels shape = omega (arith, labels_count shape, leaves_positive shape)
@@ -67,8 +67,8 @@ last_label_of labels shape e =
 pub right_label : (sons : List Label) (left right : Shape) → sons ≡ labels_of left ++ labels_of right → get_or sons (length sons - 1) no_label ≡ label_of right
 right_label sons left right e =
     rw e (get_or-append_last (labels_of left) (labels_of right) no_label (length (labels_of left ++ labels_of right) - 1) (some_labels right)
-      (omega (arith, length-append (labels_of left) (labels_of right)))
-      ∙ last_label_of (labels_of right) right refl)
+    (omega (arith, length-append (labels_of left) (labels_of right)))
+    ∙ last_label_of (labels_of right) right refl)
 
 -- the labels of a pair's sons, apart
 pub record AreParts (sons : List Label) (left right : Shape) (front back : List Label) : Type 0 where
@@ -91,7 +91,7 @@ parts sons left right n front back e nodes is_front is_back =
       front_is = front_is;
       back_is = is_back ∙ (ap (λ xs. drop (length sons - n) xs) e ∙ drop_all_of (labels_of left) (labels_of right) (length sons - n) at);
       left_is = last_label_of front left front_is;
-      right_is = right_label sons left right e
+      right_is = right_label sons left right e;
     }
 
 -- the moves of a pair, made of its sons' moves

@@ -212,3 +212,6 @@ order_is_play shape =
 
 pub number_enough : (shape : Shape) → CanBePlayed shape (number_of shape)
 number_enough shape = (moves_of shape 0 0, order_is_play shape)
+
+pub moves_are_play : (shape : Shape) (moves : List Move) → moves ≡ moves_of shape 0 0 → IsPlay shape moves (number_of shape)
+moves_are_play shape moves are = subst (λ xs. IsPlay shape xs (number_of shape)) (sym are) (order_is_play shape)

@@ -18,7 +18,6 @@ struct Label {
 
 /// A play on the shape with as few registers as there can be. A shape of 2^32 leaves is answered as
 /// one for which there is no memory.
-#[tactic(auto, using(crate::proofs::Plays::order_is_play))]
 pub fn order(alloc: Global, shape: &Shape) -> Result<Plan, NoMemory>
     requires { number_of shape.now ≤ 8 }
     ensures { IfOk result (λ plan. IsPlay shape.now plan.moves.items (number_of shape.now)) }

@@ -135,21 +135,22 @@ returns-in_ok-map_err-in-Pair t c =
     let right_number = ap (λ (l : Label). l.number) apart.right_is in
     let pushed : c.push-in-Pair.new.self.items ≡ c.if-right_label-left_label.moves.items ++ Combine c.args.register (c.args.register + 1) ∷ [] = search rules in
     elim c.if-right_label-left_label.branch [
-      then-right_label-left_label+in_ok-add_moves-in-Pair+in_ok-add_moves-in-Pair-2 w ↦
-        let test = w.if-right_label-left_label.true in
-        let one = w.in_ok-add_moves-in-Pair.ensures in
-        let two = w.in_ok-add_moves-in-Pair-2.ensures in
-        pair_moves_left_first c.args.shape.now left right _ _ c.args.leaf _ c.args.register c.args.moves.now.items w.add_moves.new.moves.items w.add_moves-then-right_label-left_label.new.moves.items c.push-in-Pair.new.self.items c.in-Pair.is
+      | then-right_label-left_label+in_ok-add_moves-in-Pair+in_ok-add_moves-in-Pair-2 w ↦
+          let test = w.if-right_label-left_label.true in
+          let one = w.in_ok-add_moves-in-Pair.ensures in
+          let two = w.in_ok-add_moves-in-Pair-2.ensures in
+          pair_moves_left_first c.args.shape.now left right _ _ c.args.leaf _ c.args.register c.args.moves.now.items w.add_moves.new.moves.items w.add_moves-then-right_label-left_label.new.moves.items c.push-in-Pair.new.self.items c.in-Pair.is
           (omega (arith, test, left_number, right_number)) (ap (λ n. c.args.leaf + n) left_leaves)
           (one ∙ ap (λ s. c.args.moves.now.items ++ moves_of s c.args.leaf c.args.register) w.deref.ensures)
           (two ∙ ap (λ s. w.add_moves.new.moves.items ++ moves_of s (c.args.leaf + (get_or c.split_at.result.0.now (length c.split_at.result.0.now - 1) no_label).leaves) (c.args.register + 1)) w.deref-then-right_label-left_label.ensures)
           (pushed ∙ ap (λ (v : Vec Move Global). v.items ++ Combine c.args.register (c.args.register + 1) ∷ []) w.moves-is)
-    | else-right_label-left_label+in_ok-add_moves-in-Pair-3+in_ok-add_moves-in-Pair-4 w ↦
-        let test = w.if-right_label-left_label.false in
-        let one = w.in_ok-add_moves-in-Pair-3.ensures in
-        let two = w.in_ok-add_moves-in-Pair-4.ensures in
-        pair_moves_right_first c.args.shape.now left right _ _ c.args.leaf _ c.args.register c.args.moves.now.items w.add_moves-else-right_label-left_label.new.moves.items w.add_moves-else-right_label-left_label-2.new.moves.items c.push-in-Pair.new.self.items c.in-Pair.is
+      | else-right_label-left_label+in_ok-add_moves-in-Pair-3+in_ok-add_moves-in-Pair-4 w ↦
+          let test = w.if-right_label-left_label.false in
+          let one = w.in_ok-add_moves-in-Pair-3.ensures in
+          let two = w.in_ok-add_moves-in-Pair-4.ensures in
+          pair_moves_right_first c.args.shape.now left right _ _ c.args.leaf _ c.args.register c.args.moves.now.items w.add_moves-else-right_label-left_label.new.moves.items w.add_moves-else-right_label-left_label-2.new.moves.items c.push-in-Pair.new.self.items c.in-Pair.is
           (omega (arith, test, left_number, right_number)) (ap (λ n. c.args.leaf + n) left_leaves)
           (one ∙ ap (λ s. c.args.moves.now.items ++ moves_of s (c.args.leaf + (get_or c.split_at.result.0.now (length c.split_at.result.0.now - 1) no_label).leaves) c.args.register) w.deref-else-right_label-left_label.ensures)
           (two ∙ ap (λ s. w.add_moves-else-right_label-left_label.new.moves.items ++ moves_of s c.args.leaf (c.args.register + 1)) w.deref-else-right_label-left_label-2.ensures)
-          (pushed ∙ ap (λ (v : Vec Move Global). v.items ++ Combine c.args.register (c.args.register + 1) ∷ []) w.moves-is) ]
+          (pushed ∙ ap (λ (v : Vec Move Global). v.items ++ Combine c.args.register (c.args.register + 1) ∷ []) w.moves-is)
+    ]
