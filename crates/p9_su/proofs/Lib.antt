@@ -1,0 +1,5 @@
+pub mod Places
+pub mod Bound
+pub mod Plays
+pub mod Labels
+pub mod Numbers

@@ -1,0 +1,3 @@
+pub mod Shapes
+pub mod Game
+pub mod Order
