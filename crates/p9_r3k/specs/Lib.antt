@@ -1,0 +1,6 @@
+pub mod Fields
+pub mod Table
+pub mod Memory
+pub mod Effects
+pub mod Machine
+pub mod Start

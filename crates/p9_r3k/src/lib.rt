@@ -1,0 +1,10 @@
+//! The R3000: its table of instructions, and its machine with branch slots and load delays.
+#![tactic(auto)]
+
+mod halt;
+mod inst;
+mod lines;
+
+pub use halt::{Asked, Effect, Ending, HaltCause};
+pub use inst::Inst;
+pub use lines::{Line, Lines, Part, Value};
