@@ -1,10 +1,12 @@
 //! The R3000: its table of instructions, and its machine with branch slots and load delays.
 #![tactic(auto)]
 
+mod code;
 mod halt;
 mod inst;
 mod lines;
 
+pub use code::{decode, encode};
 pub use halt::{Asked, Effect, Ending, HaltCause};
 pub use inst::Inst;
 pub use lines::{Line, Lines, Part, Value};
