@@ -4,3 +4,5 @@ pub mod Memory
 pub mod Effects
 pub mod Machine
 pub mod Start
+pub mod Straight
+pub mod Laws

@@ -4,9 +4,11 @@
 mod code;
 mod halt;
 mod inst;
+mod laws;
 mod lines;
 
 pub use code::{decode, encode};
 pub use halt::{Asked, Effect, Ending, HaltCause};
 pub use inst::Inst;
+pub use laws::{machine_laws, straight_laws};
 pub use lines::{Line, Lines, Part, Value};

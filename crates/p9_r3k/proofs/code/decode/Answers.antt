@@ -1,6 +1,6 @@
 use Rattle.std.proofs.Common.{◌∙◌, ap}
 use Rattle.p9_r3k.specs.Table.{decoded}
-use Rattle.p9_r3k.proofs.Laws.{again}
+use Rattle.p9_r3k.proofs.Again.{again}
 use Rattle.p9_r3k.proofs.code.decode.Goals as goal
 
 pub returns-clause-again : goal.returns-clause-again

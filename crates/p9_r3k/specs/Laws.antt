@@ -1,0 +1,54 @@
+-- Laws of the machines' runs.
+use Rattle.std.specs.Prelude.{ℕ, ◌+◌, ◌≡◌, ◌++◌, List}
+use Rattle.p9_r3k.specs.declared.halt.Ending.{Ending}
+use Rattle.p9_r3k.specs.declared.halt.Ending.TheVariants.{Running, Exited, Halted}
+use Rattle.p9_r3k.specs.declared.lines.Line.{Line}
+use Rattle.p9_r3k.specs.Machine.{State, run}
+use Rattle.p9_r3k.specs.Straight.{Addresses, Straight, straight_run}
+
+abbrev pub HasEnded : Ending → Type 0
+HasEnded Running = ⊥
+HasEnded (Exited at len) = Unit {0}
+HasEnded (Halted cause pc) = Unit {0}
+
+abbrev pub EndedStays : Type 0
+EndedStays = (n : ℕ) (s : State) → HasEnded s.core.ending → run n s ≡ s
+
+abbrev pub RunsCompose : Type 0
+RunsCompose = (m n : ℕ) (s : State) → run (m + n) s ≡ run n (run m s)
+
+-- the second list begins with the first
+abbrev pub Extends : List ℕ → List ℕ → Type 0
+Extends xs ys = (more : List ℕ) × (ys ≡ xs ++ more)
+
+-- the first list ends with the second
+abbrev pub EndsWith : List ℕ → List ℕ → Type 0
+EndsWith xs ys = (before : List ℕ) × (xs ≡ before ++ ys)
+
+abbrev pub OutputGrows : Type 0
+OutputGrows = (n : ℕ) (s : State) → Extends s.out (run n s).out
+
+abbrev pub InputShrinks : Type 0
+InputShrinks = (n : ℕ) (s : State) → EndsWith s.left (run n s).left
+
+-- Of the straight machine
+
+abbrev pub StraightEndedStays : Type 0
+StraightEndedStays =
+    (a : Addresses) (lines : List Line) (n : ℕ) (x : Straight) →
+    HasEnded x.state.core.ending → straight_run a lines n x ≡ x
+
+abbrev pub StraightRunsCompose : Type 0
+StraightRunsCompose =
+    (a : Addresses) (lines : List Line) (m n : ℕ) (x : Straight) →
+    straight_run a lines (m + n) x ≡ straight_run a lines n (straight_run a lines m x)
+
+abbrev pub StraightOutputGrows : Type 0
+StraightOutputGrows =
+    (a : Addresses) (lines : List Line) (n : ℕ) (x : Straight) →
+    Extends x.state.out (straight_run a lines n x).state.out
+
+abbrev pub StraightInputShrinks : Type 0
+StraightInputShrinks =
+    (a : Addresses) (lines : List Line) (n : ℕ) (x : Straight) →
+    EndsWith x.state.left (straight_run a lines n x).state.left
