@@ -196,11 +196,11 @@ at_once-streams a n target (StoreHalf at v) i s = record { out = extends-same s.
 at_once-streams a n target (StoreWord at v) i s = record { out = extends-same s.out; left = ends-same s.left }
 at_once-streams a n target (Branch r taken to) i s =
     let h : ReadsAndWrites (linked_line a r i s) (on_to (if taken then target else Some (i + 1)) i (linked_line a r i s)).state =
-        on_to-streams (if taken then target else Some (i + 1)) i (linked_line a r i s) in
+    on_to-streams (if taken then target else Some (i + 1)) i (linked_line a r i s) in
     record { out = h.out; left = h.left }
 at_once-streams a n target (JumpTo r to) i s =
     let h : ReadsAndWrites (linked_line a r i s) (on_to (line_at a.line to 0 n) i (linked_line a r i s)).state =
-        on_to-streams (line_at a.line to 0 n) i (linked_line a r i s) in
+    on_to-streams (line_at a.line to 0 n) i (linked_line a r i s) in
     record { out = h.out; left = h.left }
 at_once-streams a n target Call i s = record { out = called-out (asked s.core) s; left = called-left (asked s.core) s }
 at_once-streams a n target (Stop cause) i s = record { out = extends-same s.out; left = ends-same s.left }
@@ -215,7 +215,7 @@ pub straight_going-streams :
     ReadsAndWrites x.state (straight_going a lines e x).state
 straight_going-streams a lines Running x =
     let h : ReadsAndWrites (standing a x) (straight_line a (length lines) (slice_get lines x.at) x.at (standing a x)).state =
-        straight_line-streams a (length lines) (slice_get lines x.at) x.at (standing a x) in
+    straight_line-streams a (length lines) (slice_get lines x.at) x.at (standing a x) in
     record { out = h.out; left = h.left }
 straight_going-streams a lines (Exited at len) x = reads_and_writes-same x.state
 straight_going-streams a lines (Halted cause pc) x = reads_and_writes-same x.state

@@ -12,3 +12,6 @@ pub use halt::{Asked, Effect, Ending, HaltCause};
 pub use inst::Inst;
 pub use laws::{machine_laws, straight_laws};
 pub use lines::{Line, Lines, Part, Value};
+
+#[cfg(test)]
+mod tests;
