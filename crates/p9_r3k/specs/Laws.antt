@@ -4,6 +4,7 @@ use Rattle.p9_r3k.specs.declared.halt.Ending.{Ending}
 use Rattle.p9_r3k.specs.declared.halt.Ending.TheVariants.{Running, Exited, Halted}
 use Rattle.p9_r3k.specs.declared.lines.Line.{Line}
 use Rattle.p9_r3k.specs.Machine.{State, run}
+use Rattle.p9_r3k.specs.Pending.{Pending, settled, pending_run}
 use Rattle.p9_r3k.specs.Straight.{Addresses, Straight, straight_run}
 
 abbrev pub HasEnded : Ending → Type 0
@@ -52,3 +53,9 @@ abbrev pub StraightInputShrinks : Type 0
 StraightInputShrinks =
     (a : Addresses) (lines : List Line) (n : ℕ) (x : Straight) →
     EndsWith x.state.left (straight_run a lines n x).state.left
+
+-- Of the machine whose loads come one instruction later
+
+-- it stands as the machine whose loads come at once, but for the value that is on its way
+abbrev pub LoadsComeLater : Type 0
+LoadsComeLater = (n : ℕ) (p : Pending) → settled (pending_run n p) ≡ run n (settled p)

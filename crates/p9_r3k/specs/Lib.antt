@@ -5,4 +5,5 @@ pub mod Effects
 pub mod Machine
 pub mod Start
 pub mod Straight
+pub mod Pending
 pub mod Laws

@@ -1,6 +1,6 @@
 // What holds of every run, as contracts of functions that do nothing.
 
-ghost use Rattle.p9_r3k.specs.Laws.{EndedStays, RunsCompose, OutputGrows, InputShrinks, StraightEndedStays, StraightRunsCompose, StraightOutputGrows, StraightInputShrinks};
+ghost use Rattle.p9_r3k.specs.Laws.{EndedStays, RunsCompose, OutputGrows, InputShrinks, StraightEndedStays, StraightRunsCompose, StraightOutputGrows, StraightInputShrinks, LoadsComeLater};
 
 /// The machine's runs.
 pub fn machine_laws()
@@ -17,3 +17,9 @@ pub fn straight_laws()
     ensures output { StraightOutputGrows }
     ensures input { StraightInputShrinks }
 {}
+
+/// The runs of the machine whose loads come one instruction later.
+pub fn pending_laws()
+    ensures { LoadsComeLater }
+{
+}
