@@ -1,6 +1,6 @@
 // What holds of every run, as contracts of functions that do nothing.
 
-ghost use Rattle.p9_r3k.specs.Laws.{EndedStays, RunsCompose, OutputGrows, InputShrinks, StraightEndedStays, StraightRunsCompose, StraightOutputGrows, StraightInputShrinks, LoadsComeLater};
+ghost use Rattle.p9_r3k.specs.Laws.{EndedStays, RunsCompose, OutputGrows, InputShrinks, StraightEndedStays, StraightRunsCompose, StraightOutputGrows, StraightInputShrinks, LoadsComeLater, TextStays};
 
 /// The machine's runs.
 pub fn machine_laws()
@@ -21,5 +21,11 @@ pub fn straight_laws()
 /// The runs of the machine whose loads come one instruction later.
 pub fn pending_laws()
     ensures { LoadsComeLater }
+{
+}
+
+/// No program changes its own text.
+pub fn text_laws()
+    ensures { TextStays }
 {
 }
