@@ -1,10 +1,12 @@
 -- Laws of the machines' runs.
-use Rattle.std.specs.Prelude.{ℕ, ◌+◌, ◌-◌, ◌≡◌, ◌≤◌, ◌++◌, List, length, take}
+use Rattle.std.specs.Prelude.{ℕ, ◌+◌, ◌-◌, ◌^◌, ◌≡◌, ◌≤◌, ◌++◌, List, length, take}
+use Rattle.p9_base.specs.Numbers.{word_at}
 use Rattle.p9_r3k.specs.declared.halt.Ending.{Ending}
 use Rattle.p9_r3k.specs.declared.halt.Ending.TheVariants.{Running, Exited, Halted}
 use Rattle.p9_r3k.specs.declared.lines.Line.{Line}
-use Rattle.p9_r3k.specs.Memory.{Core, text_start, stack_start, stack_end, low_end}
+use Rattle.p9_r3k.specs.Memory.{Core, text_start, stack_start, stack_end, low_end, read_word}
 use Rattle.p9_r3k.specs.Machine.{State, run}
+use Rattle.p9_r3k.specs.Start.{start}
 use Rattle.p9_r3k.specs.Pending.{Pending, settled, pending_run}
 use Rattle.p9_r3k.specs.Straight.{Addresses, Straight, straight_run}
 
@@ -51,6 +53,22 @@ pub record KeepsText (c d : Core) : Type 0 where
 
 abbrev pub TextStays : Type 0
 TextStays = (n : ℕ) (s : State) → LaidOut s.core → KeepsText s.core (run n s).core
+
+-- an image's text, data with bss, within what the machine has room for
+abbrev pub ImageFits : (text init : List ℕ) → (bss : ℕ) → Type 0
+ImageFits text init bss = (length text ≤ 2 ^ 25) × (length init + bss ≤ 2 ^ 24)
+
+abbrev pub StartsLaidOut : Type 0
+StartsLaidOut =
+    (text init : List ℕ) (bss entry : ℕ) (input : List ℕ) →
+    ImageFits text init bss → LaidOut (start text init bss entry input).core
+
+-- at every step the words of the text are the image's
+abbrev pub RunsItsText : Type 0
+RunsItsText =
+    (text init : List ℕ) (bss entry : ℕ) (input : List ℕ) (n a : ℕ) →
+    ImageFits text init bss → text_start ≤ a → a + 4 ≤ text_start + length text →
+    read_word (run n (start text init bss entry input)).core a ≡ word_at text (a - text_start)
 
 -- Of the straight machine
 

@@ -1,6 +1,6 @@
 // What holds of every run, as contracts of functions that do nothing.
 
-ghost use Rattle.p9_r3k.specs.Laws.{EndedStays, RunsCompose, OutputGrows, InputShrinks, StraightEndedStays, StraightRunsCompose, StraightOutputGrows, StraightInputShrinks, LoadsComeLater, TextStays};
+ghost use Rattle.p9_r3k.specs.Laws.{EndedStays, RunsCompose, OutputGrows, InputShrinks, StraightEndedStays, StraightRunsCompose, StraightOutputGrows, StraightInputShrinks, LoadsComeLater, TextStays, StartsLaidOut, RunsItsText};
 
 /// The machine's runs.
 pub fn machine_laws()
@@ -26,6 +26,8 @@ pub fn pending_laws()
 
 /// No program changes its own text.
 pub fn text_laws()
-    ensures { TextStays }
+    ensures start { StartsLaidOut }
+    ensures kept { TextStays }
+    ensures words { RunsItsText }
 {
 }
