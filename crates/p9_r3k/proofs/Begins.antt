@@ -1,9 +1,9 @@
 -- A run begins with its parts in their places, and runs the words of its image.
-use Rattle.std.proofs.Common.{ℕ, ◌+◌, ◌-◌, ◌*◌, ◌/◌, ◌^◌, ◌≡◌, ◌≤◌, ◌<◌, ◌++◌, Bool, true, false, nat_lt, if◌then◌else◌, refl, sym, ap, ◌∙◌, arith, List, length, take, slice_index, replicate, length-append}
+use Rattle.std.proofs.Common.{ℕ, ◌+◌, ◌-◌, ◌^◌, ◌≡◌, ◌≤◌, ◌<◌, ◌++◌, Bool, true, nat_lt, refl, sym, ap, ◌∙◌, arith, List, length, take, slice_index, length-append}
 use Rattle.std.proofs.Math.ListN.{get_or-append}
 use Rattle.std.proofs.lemmas.List.{get_or-take, length-replicate}
 use Rattle.p9_base.specs.Numbers.{word_at}
-use Rattle.p9_r3k.specs.Memory.{Core, text_start, stack_start, stack_end, low_end, word_in, read_word}
+use Rattle.p9_r3k.specs.Memory.{Core, text_start, stack_start, read_word}
 use Rattle.p9_r3k.specs.Machine.{State, run}
 use Rattle.p9_r3k.specs.Start.{zeros, page_from, low_bytes, start}
 use Rattle.p9_r3k.specs.Laws.{LaidOut, KeepsText, ImageFits}
@@ -26,12 +26,12 @@ length-low_bytes text init bss =
     let end : ℕ = text_start + length text in
     let above : end ≤ page_from end = page_from-above end in
     let a : length (text ++ zeros (page_from end - end) ++ init ++ zeros bss)
-            ≡ length (text ++ zeros (page_from end - end) ++ init) + length (zeros bss) =
-        length-append (text ++ zeros (page_from end - end) ++ init) (zeros bss) in
+    ≡ length (text ++ zeros (page_from end - end) ++ init) + length (zeros bss) =
+    length-append (text ++ zeros (page_from end - end) ++ init) (zeros bss) in
     let b : length (text ++ zeros (page_from end - end) ++ init) ≡ length (text ++ zeros (page_from end - end)) + length init =
-        length-append (text ++ zeros (page_from end - end)) init in
+    length-append (text ++ zeros (page_from end - end)) init in
     let c : length (text ++ zeros (page_from end - end)) ≡ length text + length (zeros (page_from end - end)) =
-        length-append text (zeros (page_from end - end)) in
+    length-append text (zeros (page_from end - end)) in
     let d : length (zeros (page_from end - end)) ≡ page_from end - end = length-zeros (page_from end - end) in
     let e : length (zeros bss) ≡ bss = length-zeros bss in
     omega (arith, a, b, c, d, e, above)
@@ -67,7 +67,7 @@ word_at-alike xs ys i a b c d = rw (a, b, c, d) refl
 pub word_at-kept : (n : ℕ) (xs ys : List ℕ) (i : ℕ) → take n ys ≡ take n xs → i + 4 ≤ n → word_at ys i ≡ word_at xs i
 word_at-kept n xs ys i e h =
     word_at-alike xs ys i (index-kept n xs ys i e (omega arith)) (index-kept n xs ys (i + 1) e (omega arith))
-        (index-kept n xs ys (i + 2) e (omega arith)) (index-kept n xs ys (i + 3) e (omega arith))
+    (index-kept n xs ys (i + 2) e (omega arith)) (index-kept n xs ys (i + 3) e (omega arith))
 
 pub low_read : (c : Core) (b : Bool) (a : ℕ) → nat_lt a stack_start ≡ b → b ≡ true → read_word c a ≡ word_at c.low (a - text_start)
 low_read c b a e h = rw (e, h) refl
@@ -91,7 +91,7 @@ index-front xs ys zs ws i h =
 pub word_at-front : (xs ys zs ws : List ℕ) (i : ℕ) → i + 4 ≤ length xs → word_at (xs ++ ys ++ zs ++ ws) i ≡ word_at xs i
 word_at-front xs ys zs ws i h =
     word_at-alike xs (xs ++ ys ++ zs ++ ws) i (index-front xs ys zs ws i (omega arith)) (index-front xs ys zs ws (i + 1) (omega arith))
-        (index-front xs ys zs ws (i + 2) (omega arith)) (index-front xs ys zs ws (i + 3) (omega arith))
+    (index-front xs ys zs ws (i + 2) (omega arith)) (index-front xs ys zs ws (i + 3) (omega arith))
 
 pub start-word :
     (text init : List ℕ) (bss entry : ℕ) (input : List ℕ) (a : ℕ) → text_start ≤ a → a + 4 ≤ text_start + length text →
@@ -99,7 +99,7 @@ pub start-word :
 start-word text init bss entry input a from to below =
     low_read (start text init bss entry input).core true a (below_stack a below) refl
     ∙ word_at-front text (zeros (page_from (text_start + length text) - (text_start + length text))) init (zeros bss) (a - text_start)
-        (omega arith)
+    (omega arith)
 
 pub run-word :
     (text init : List ℕ) (bss entry : ℕ) (input : List ℕ) (n a : ℕ) → ImageFits text init bss → text_start ≤ a →

@@ -16,26 +16,26 @@ use Rattle.p9_r3k.specs.declared.halt.Asked.{Asked}
 use Rattle.p9_r3k.specs.declared.halt.Asked.TheVariants as asks
 use Rattle.p9_r3k.specs.Memory.{Core, text_start, stack_start, stack_end, low_end, reg, readable, writable, bytes_from, with_byte, with_half, with_word, with_bytes, over}
 use Rattle.p9_r3k.specs.Effects.{effect_of, address, store_byte, store_half, store_word, reads_pair}
-use Rattle.p9_r3k.specs.Machine.{State, fetched, advanced, linked, sent, argument, then_one, then_three, exits_of, asked_exits, asked_read, asked_write, asked, called, acted, executed, going, step, run}
+use Rattle.p9_r3k.specs.Machine.{State, fetched, advanced, argument, then_one, then_three, exits_of, asked_exits, asked_read, asked_write, asked, called, acted, executed, going, step, run}
 use Rattle.p9_r3k.specs.Laws.{LaidOut, KeepsText}
 
 -- What may be written
 
 pub writable-low_start : (a base end n : ℕ) → 0 < n →
     n ≤ (if nat_lt a base then 0 else if nat_lt a end then end - a else if nat_lt a stack_start then 0 else
-        if nat_lt a stack_end then stack_end - a else 0) →
+    if nat_lt a stack_end then stack_end - a else 0) →
     base ≤ a
 writable-low_start a base end n some h = grind (arith, nat_tests)
 
 pub writable-low_end : (a base end n : ℕ) → 0 < n →
     n ≤ (if nat_lt a base then 0 else if nat_lt a end then end - a else if nat_lt a stack_start then 0 else
-        if nat_lt a stack_end then stack_end - a else 0) →
+    if nat_lt a stack_end then stack_end - a else 0) →
     a < stack_start → a + n ≤ end
 writable-low_end a base end n some h low = grind (arith, nat_tests)
 
 pub writable-stack_end : (a base end n : ℕ) → 0 < n →
     n ≤ (if nat_lt a base then 0 else if nat_lt a end then end - a else if nat_lt a stack_start then 0 else
-        if nat_lt a stack_end then stack_end - a else 0) →
+    if nat_lt a stack_end then stack_end - a else 0) →
     end ≤ stack_start → stack_start ≤ a → a + n ≤ stack_end
 writable-stack_end a base end n some h below high = grind (arith, nat_tests)
 
@@ -66,8 +66,8 @@ keeps-trans c d e h k = record {
   low_size = k.low_size ∙ h.low_size;
   stack_size = k.stack_size ∙ h.stack_size;
   below_data =
-    (let P : ℕ → Type 0 = λ n. take (n - text_start) e.low ≡ take (n - text_start) d.low in
-    subst P h.data_start k.below_data) ∙ h.below_data;
+      (let P : ℕ → Type 0 = λ n. take (n - text_start) e.low ≡ take (n - text_start) d.low in
+      subst P h.data_start k.below_data) ∙ h.below_data;
 }
 
 pub keeps-choice :
@@ -92,32 +92,32 @@ pub with_byte-keeps : (c : Core) (a v : ℕ) → 1 ≤ writable c a → KeepsTex
 with_byte-keeps c a v h =
     let from : c.data_start ≤ a = writable-low_start a c.data_start (low_end c) 1 (omega arith) h in
     keeps-choice (nat_lt a stack_start) c (slice_set c.low (a - text_start) v) (slice_set c.stack (a - stack_start) v)
-        (λ e. keeps_low-set c c.low (a - text_start) v (keeps_low-same c) (omega (arith, from)))
-        (λ e. length-set c.stack (a - stack_start) v)
+    (λ e. keeps_low-set c c.low (a - text_start) v (keeps_low-same c) (omega (arith, from)))
+    (λ e. length-set c.stack (a - stack_start) v)
 
 pub with_half-keeps : (c : Core) (a v : ℕ) → 2 ≤ writable c a → KeepsText c (with_half c a v)
 with_half-keeps c a v h =
     let from : c.data_start ≤ a = writable-low_start a c.data_start (low_end c) 2 (omega arith) h in
     keeps-choice (nat_lt a stack_start) c (slice_set (slice_set c.low (a - text_start) (v / 2 ^ 8 % 2 ^ 8)) (a - text_start + 1) (v % 2 ^ 8)) (slice_set (slice_set c.stack (a - stack_start) (v / 2 ^ 8 % 2 ^ 8)) (a - stack_start + 1) (v % 2 ^ 8))
-        (λ e. keeps_low-set c (slice_set c.low (a - text_start) (v / 2 ^ 8 % 2 ^ 8)) (a - text_start + 1) (v % 2 ^ 8)
-        (keeps_low-set c c.low (a - text_start) (v / 2 ^ 8 % 2 ^ 8)
-        (keeps_low-same c) (omega (arith, from))) (omega (arith, from)))
-        (λ e. length-set (slice_set c.stack (a - stack_start) (v / 2 ^ 8 % 2 ^ 8)) (a - stack_start + 1) (v % 2 ^ 8)
-        ∙ (length-set c.stack (a - stack_start) (v / 2 ^ 8 % 2 ^ 8)))
+    (λ e. keeps_low-set c (slice_set c.low (a - text_start) (v / 2 ^ 8 % 2 ^ 8)) (a - text_start + 1) (v % 2 ^ 8)
+    (keeps_low-set c c.low (a - text_start) (v / 2 ^ 8 % 2 ^ 8)
+    (keeps_low-same c) (omega (arith, from))) (omega (arith, from)))
+    (λ e. length-set (slice_set c.stack (a - stack_start) (v / 2 ^ 8 % 2 ^ 8)) (a - stack_start + 1) (v % 2 ^ 8)
+    ∙ (length-set c.stack (a - stack_start) (v / 2 ^ 8 % 2 ^ 8)))
 
 pub with_word-keeps : (c : Core) (a v : ℕ) → 4 ≤ writable c a → KeepsText c (with_word c a v)
 with_word-keeps c a v h =
     let from : c.data_start ≤ a = writable-low_start a c.data_start (low_end c) 4 (omega arith) h in
     keeps-choice (nat_lt a stack_start) c (slice_set (slice_set (slice_set (slice_set c.low (a - text_start) (v / 2 ^ 24 % 2 ^ 8)) (a - text_start + 1) (v / 2 ^ 16 % 2 ^ 8)) (a - text_start + 2) (v / 2 ^ 8 % 2 ^ 8)) (a - text_start + 3) (v % 2 ^ 8)) (slice_set (slice_set (slice_set (slice_set c.stack (a - stack_start) (v / 2 ^ 24 % 2 ^ 8)) (a - stack_start + 1) (v / 2 ^ 16 % 2 ^ 8)) (a - stack_start + 2) (v / 2 ^ 8 % 2 ^ 8)) (a - stack_start + 3) (v % 2 ^ 8))
-        (λ e. keeps_low-set c (slice_set (slice_set (slice_set c.low (a - text_start) (v / 2 ^ 24 % 2 ^ 8)) (a - text_start + 1) (v / 2 ^ 16 % 2 ^ 8)) (a - text_start + 2) (v / 2 ^ 8 % 2 ^ 8)) (a - text_start + 3) (v % 2 ^ 8)
-        (keeps_low-set c (slice_set (slice_set c.low (a - text_start) (v / 2 ^ 24 % 2 ^ 8)) (a - text_start + 1) (v / 2 ^ 16 % 2 ^ 8)) (a - text_start + 2) (v / 2 ^ 8 % 2 ^ 8)
-        (keeps_low-set c (slice_set c.low (a - text_start) (v / 2 ^ 24 % 2 ^ 8)) (a - text_start + 1) (v / 2 ^ 16 % 2 ^ 8)
-        (keeps_low-set c c.low (a - text_start) (v / 2 ^ 24 % 2 ^ 8)
-        (keeps_low-same c) (omega (arith, from))) (omega (arith, from))) (omega (arith, from))) (omega (arith, from)))
-        (λ e. length-set (slice_set (slice_set (slice_set c.stack (a - stack_start) (v / 2 ^ 24 % 2 ^ 8)) (a - stack_start + 1) (v / 2 ^ 16 % 2 ^ 8)) (a - stack_start + 2) (v / 2 ^ 8 % 2 ^ 8)) (a - stack_start + 3) (v % 2 ^ 8)
-        ∙ (length-set (slice_set (slice_set c.stack (a - stack_start) (v / 2 ^ 24 % 2 ^ 8)) (a - stack_start + 1) (v / 2 ^ 16 % 2 ^ 8)) (a - stack_start + 2) (v / 2 ^ 8 % 2 ^ 8)
-        ∙ (length-set (slice_set c.stack (a - stack_start) (v / 2 ^ 24 % 2 ^ 8)) (a - stack_start + 1) (v / 2 ^ 16 % 2 ^ 8)
-        ∙ (length-set c.stack (a - stack_start) (v / 2 ^ 24 % 2 ^ 8)))))
+    (λ e. keeps_low-set c (slice_set (slice_set (slice_set c.low (a - text_start) (v / 2 ^ 24 % 2 ^ 8)) (a - text_start + 1) (v / 2 ^ 16 % 2 ^ 8)) (a - text_start + 2) (v / 2 ^ 8 % 2 ^ 8)) (a - text_start + 3) (v % 2 ^ 8)
+    (keeps_low-set c (slice_set (slice_set c.low (a - text_start) (v / 2 ^ 24 % 2 ^ 8)) (a - text_start + 1) (v / 2 ^ 16 % 2 ^ 8)) (a - text_start + 2) (v / 2 ^ 8 % 2 ^ 8)
+    (keeps_low-set c (slice_set c.low (a - text_start) (v / 2 ^ 24 % 2 ^ 8)) (a - text_start + 1) (v / 2 ^ 16 % 2 ^ 8)
+    (keeps_low-set c c.low (a - text_start) (v / 2 ^ 24 % 2 ^ 8)
+    (keeps_low-same c) (omega (arith, from))) (omega (arith, from))) (omega (arith, from))) (omega (arith, from)))
+    (λ e. length-set (slice_set (slice_set (slice_set c.stack (a - stack_start) (v / 2 ^ 24 % 2 ^ 8)) (a - stack_start + 1) (v / 2 ^ 16 % 2 ^ 8)) (a - stack_start + 2) (v / 2 ^ 8 % 2 ^ 8)) (a - stack_start + 3) (v % 2 ^ 8)
+    ∙ (length-set (slice_set (slice_set c.stack (a - stack_start) (v / 2 ^ 24 % 2 ^ 8)) (a - stack_start + 1) (v / 2 ^ 16 % 2 ^ 8)) (a - stack_start + 2) (v / 2 ^ 8 % 2 ^ 8)
+    ∙ (length-set (slice_set c.stack (a - stack_start) (v / 2 ^ 24 % 2 ^ 8)) (a - stack_start + 1) (v / 2 ^ 16 % 2 ^ 8)
+    ∙ (length-set c.stack (a - stack_start) (v / 2 ^ 24 % 2 ^ 8)))))
 
 -- Rooms
 
@@ -165,7 +165,7 @@ stack-over c a [] laid h high = ap length (over-none c.stack (a - stack_start))
 stack-over c a (x ∷ xs) laid h high =
     let some : 0 < length (x ∷ xs) = omega arith in
     let reach : a + length (x ∷ xs) ≤ stack_end =
-        writable-stack_end a c.data_start (low_end c) (length (x ∷ xs)) some h laid.above high in
+    writable-stack_end a c.data_start (low_end c) (length (x ∷ xs)) some h laid.above high in
     let size : length c.stack ≡ stack_end - stack_start = laid.stack_size in
     over-size c.stack (a - stack_start) (x ∷ xs) (omega (arith, reach, size, high))
 
@@ -173,8 +173,8 @@ pub with_bytes-keeps :
     (c : Core) (a : ℕ) (xs : List ℕ) → LaidOut c → length xs ≤ writable c a → KeepsText c (with_bytes c a xs)
 with_bytes-keeps c a xs laid h =
     keeps-choice (nat_lt a stack_start) c (over c.low (a - text_start) xs) (over c.stack (a - stack_start) xs)
-        (λ e. keeps_low-over-by c a xs laid h (ltb-true a stack_start e))
-        (λ e. stack-over c a xs laid h (ltb-false a stack_start e))
+    (λ e. keeps_low-over-by c a xs laid h (ltb-true a stack_start e))
+    (λ e. stack-over c a xs laid h (ltb-false a stack_start e))
 
 -- What a system call asks
 
@@ -202,8 +202,8 @@ exits_of-room a reach (Some k) c = tt
 pub asked_exits-room : (c : Core) (a : ℕ) → RoomFits (asked_exits c a) c
 asked_exits-room c a =
     choice-room (a == 0) (asks.Exits 0 0)
-        (exits_of a (readable c a) (position (λ b. b == 0) (bytes_from c a (readable c a)))) c tt
-        (exits_of-room a (readable c a) (position (λ b. b == 0) (bytes_from c a (readable c a))) c)
+    (exits_of a (readable c a) (position (λ b. b == 0) (bytes_from c a (readable c a)))) c tt
+    (exits_of-room a (readable c a) (position (λ b. b == 0) (bytes_from c a (readable c a))) c)
 
 pub read-room : (b : Bool) (c : Core) (a n : ℕ) (stop : HaltCause) → (b ≡ true → n ≤ writable c a) → RoomFits (if b then asks.Read a n else asks.Stop stop) c
 read-room true c a n stop h = h refl
@@ -212,35 +212,35 @@ read-room false c a n stop h = tt
 pub asked_read-room : (c : Core) (d a n : ℕ) → RoomFits (asked_read c d a n) c
 asked_read-room c d a n =
     choice-room (not (d == 0) || is_negative n) asks.Refused
-        (if nat_le n (writable c a) then asks.Read a n else asks.Stop (halts.BadAddress (a + writable c a))) c tt
-        (read-room (nat_le n (writable c a)) c a n (halts.BadAddress (a + writable c a)) (leb-true n (writable c a)))
+    (if nat_le n (writable c a) then asks.Read a n else asks.Stop (halts.BadAddress (a + writable c a))) c tt
+    (read-room (nat_le n (writable c a)) c a n (halts.BadAddress (a + writable c a)) (leb-true n (writable c a)))
 
 pub asked_write-room : (c : Core) (d a n : ℕ) → RoomFits (asked_write c d a n) c
 asked_write-room c d a n =
     choice-room (not (d == 1) || is_negative n) asks.Refused
-        (if nat_le n (readable c a) then asks.Write a n else asks.Stop (halts.BadAddress (a + readable c a))) c tt
-        (choice-room (nat_le n (readable c a)) (asks.Write a n) (asks.Stop (halts.BadAddress (a + readable c a))) c tt tt)
+    (if nat_le n (readable c a) then asks.Write a n else asks.Stop (halts.BadAddress (a + readable c a))) c tt
+    (choice-room (nat_le n (readable c a)) (asks.Write a n) (asks.Stop (halts.BadAddress (a + readable c a))) c tt tt)
 
 pub then_three-room :
     (c : Core) (go : ℕ → ℕ → ℕ → Asked) → ((d a n : ℕ) → RoomFits (go d a n) c) → RoomFits (then_three c go) c
 then_three-room c go h =
     then_one-room (argument c (word_sum (reg c 29) 4))
-        (λ d. then_one (argument c (word_sum (reg c 29) 8)) (λ a. then_one (argument c (word_sum (reg c 29) 12)) (λ n. go d a n))) c
-        (λ d. then_one-room (argument c (word_sum (reg c 29) 8))
-            (λ a. then_one (argument c (word_sum (reg c 29) 12)) (λ n. go d a n)) c
-            (λ a. then_one-room (argument c (word_sum (reg c 29) 12)) (λ n. go d a n) c (λ n. h d a n)))
+    (λ d. then_one (argument c (word_sum (reg c 29) 8)) (λ a. then_one (argument c (word_sum (reg c 29) 12)) (λ n. go d a n))) c
+    (λ d. then_one-room (argument c (word_sum (reg c 29) 8))
+    (λ a. then_one (argument c (word_sum (reg c 29) 12)) (λ n. go d a n)) c
+    (λ a. then_one-room (argument c (word_sum (reg c 29) 12)) (λ n. go d a n) c (λ n. h d a n)))
 
 pub asked-room : (c : Core) → RoomFits (asked c) c
 asked-room c =
     choice-room (reg c 1 == 8) (then_one (argument c (word_sum (reg c 29) 4)) (asked_exits c))
-        (if reg c 1 == 15 then then_three c (asked_read c) else
-            if reg c 1 == 20 then then_three c (asked_write c) else asks.Stop (halts.BadCall (reg c 1))) c
-        (then_one-room (argument c (word_sum (reg c 29) 4)) (asked_exits c) c (asked_exits-room c))
-        (choice-room (reg c 1 == 15) (then_three c (asked_read c))
-            (if reg c 1 == 20 then then_three c (asked_write c) else asks.Stop (halts.BadCall (reg c 1))) c
-            (then_three-room c (asked_read c) (asked_read-room c))
-            (choice-room (reg c 1 == 20) (then_three c (asked_write c)) (asks.Stop (halts.BadCall (reg c 1))) c
-                (then_three-room c (asked_write c) (asked_write-room c)) tt))
+    (if reg c 1 == 15 then then_three c (asked_read c) else
+    if reg c 1 == 20 then then_three c (asked_write c) else asks.Stop (halts.BadCall (reg c 1))) c
+    (then_one-room (argument c (word_sum (reg c 29) 4)) (asked_exits c) c (asked_exits-room c))
+    (choice-room (reg c 1 == 15) (then_three c (asked_read c))
+    (if reg c 1 == 20 then then_three c (asked_write c) else asks.Stop (halts.BadCall (reg c 1))) c
+    (then_three-room c (asked_read c) (asked_read-room c))
+    (choice-room (reg c 1 == 20) (then_three c (asked_write c)) (asks.Stop (halts.BadCall (reg c 1))) c
+    (then_three-room c (asked_write c) (asked_write-room c)) tt))
 
 pub called-keeps : (k : Asked) (s : State) → LaidOut s.core → RoomFits k s.core → KeepsText s.core (called k s).core
 called-keeps (asks.Exits at len) s laid h =
@@ -249,7 +249,7 @@ called-keeps (asks.Read at n) s laid h =
     let k : ℕ = min n (length s.left) in
     let fits : length (take k s.left) ≤ n = omega (arith, length-take k s.left) in
     keeps-answered s.core (with_bytes s.core at (take k s.left)) _
-        (with_bytes-keeps s.core at (take k s.left) laid (omega (arith, fits, h)))
+    (with_bytes-keeps s.core at (take k s.left) laid (omega (arith, fits, h)))
 called-keeps (asks.Write at n) s laid h =
     record { text_end = refl; data_start = refl; low_size = refl; stack_size = refl; below_data = refl }
 called-keeps asks.Refused s laid h =
@@ -297,14 +297,14 @@ store_byte-fits c a v = byte-store (nat_le 1 (writable c a)) c a (low8 v) (halts
 pub store_half-fits : (c : Core) (a v : ℕ) → StoreFits (store_half c a v) c
 store_half-fits c a v =
     choice-store (a % 2 == 0) (if nat_le 2 (writable c a) then effects.StoreHalf a (low16 v) else effects.Stop (halts.BadAddress a))
-        (effects.Stop (halts.Misaligned a)) c
-        (half-store (nat_le 2 (writable c a)) c a (low16 v) (halts.BadAddress a) (leb-true 2 (writable c a))) tt
+    (effects.Stop (halts.Misaligned a)) c
+    (half-store (nat_le 2 (writable c a)) c a (low16 v) (halts.BadAddress a) (leb-true 2 (writable c a))) tt
 
 pub store_word-fits : (c : Core) (a v : ℕ) → StoreFits (store_word c a v) c
 store_word-fits c a v =
     choice-store (a % 4 == 0) (if nat_le 4 (writable c a) then effects.StoreWord a v else effects.Stop (halts.BadAddress a))
-        (effects.Stop (halts.Misaligned a)) c
-        (word-store (nat_le 4 (writable c a)) c a v (halts.BadAddress a) (leb-true 4 (writable c a))) tt
+    (effects.Stop (halts.Misaligned a)) c
+    (word-store (nat_le 4 (writable c a)) c a v (halts.BadAddress a) (leb-true 4 (writable c a))) tt
 
 pub effect_of-fits : (i : Inst) (c : Core) → StoreFits (effect_of i c) c
 effect_of-fits (J index) c = tt
@@ -364,21 +364,21 @@ effect_of-fits (Sltu rs rt rd) c = tt
 
 pub acted-keeps :
     (e : Effect) (s : State) (reader : Bool) → LaidOut s.core → StoreFits e s.core → KeepsText s.core (acted e s reader).core
-acted-keeps (effects.Write r v) s reader laid h = 
+acted-keeps (effects.Write r v) s reader laid h =
     record { text_end = refl; data_start = refl; low_size = refl; stack_size = refl; below_data = refl }
-acted-keeps (effects.Pair hi lo) s reader laid h = 
+acted-keeps (effects.Pair hi lo) s reader laid h =
     record { text_end = refl; data_start = refl; low_size = refl; stack_size = refl; below_data = refl }
-acted-keeps (effects.Load r v) s reader laid h = 
+acted-keeps (effects.Load r v) s reader laid h =
     record { text_end = refl; data_start = refl; low_size = refl; stack_size = refl; below_data = refl }
 acted-keeps (effects.StoreByte a v) s reader laid h = keeps-advanced s.core (with_byte s.core a v) reader (with_byte-keeps s.core a v h)
 acted-keeps (effects.StoreHalf a v) s reader laid h = keeps-advanced s.core (with_half s.core a v) reader (with_half-keeps s.core a v h)
 acted-keeps (effects.StoreWord a v) s reader laid h = keeps-advanced s.core (with_word s.core a v) reader (with_word-keeps s.core a v h)
-acted-keeps (effects.Branch r taken to) s reader laid h = 
+acted-keeps (effects.Branch r taken to) s reader laid h =
     record { text_end = refl; data_start = refl; low_size = refl; stack_size = refl; below_data = refl }
-acted-keeps (effects.JumpTo r to) s reader laid h = 
+acted-keeps (effects.JumpTo r to) s reader laid h =
     record { text_end = refl; data_start = refl; low_size = refl; stack_size = refl; below_data = refl }
 acted-keeps effects.Call s reader laid h = called-keeps (asked s.core) s laid (asked-room s.core)
-acted-keeps (effects.Stop cause) s reader laid h = 
+acted-keeps (effects.Stop cause) s reader laid h =
     record { text_end = refl; data_start = refl; low_size = refl; stack_size = refl; below_data = refl }
 
 pub executed-keeps : (r : Result Inst HaltCause) (s : State) → LaidOut s.core → KeepsText s.core (executed r s).core
@@ -415,7 +415,7 @@ run-keeps zero s laid = keeps-same s.core
 run-keeps (suc n) s laid =
     let before : KeepsText s.core (run n s).core = run-keeps n s laid in
     keeps-trans s.core (run n s).core (step (run n s)).core before
-        (step-keeps (run n s) (kept-laid s.core (run n s).core laid before))
+    (step-keeps (run n s) (kept-laid s.core (run n s).core laid before))
 
 pub run-laid : (n : ℕ) (s : State) → LaidOut s.core → LaidOut (run n s).core
 run-laid n s laid = kept-laid s.core (run n s).core laid (run-keeps n s laid)

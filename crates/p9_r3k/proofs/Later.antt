@@ -9,9 +9,9 @@ use Rattle.p9_r3k.specs.declared.halt.Effect.{Effect}
 use Rattle.p9_r3k.specs.declared.halt.Effect.TheVariants.{Write, Pair, Load, StoreByte, StoreHalf, StoreWord, Branch, JumpTo, Call, Stop}
 use Rattle.p9_r3k.specs.declared.halt.Asked.{Asked}
 use Rattle.p9_r3k.specs.declared.halt.Asked.TheVariants as asks
-use Rattle.p9_r3k.specs.Memory.{Core, with_reg}
+use Rattle.p9_r3k.specs.Memory.{Core}
 use Rattle.p9_r3k.specs.Effects.{effect_of, reads, reads_pair}
-use Rattle.p9_r3k.specs.Machine.{State, fetched, asked, called, acted, executed, going, step, run}
+use Rattle.p9_r3k.specs.Machine.{fetched, asked, called, acted, executed, going, step, run}
 use Rattle.p9_r3k.specs.Pending.{Pending, settled, with_register, pending_called, pending_acted, pending_executed, pending_going, pending_step, pending_run}
 use Rattle.p9_r3k.proofs.Quiet.{Quiet, or-left, or-right, effect_of-other, asked-other, IsSyscall, call_of-syscall, fetched-other, fetched-quiet}
 
@@ -76,7 +76,7 @@ pending_executed-settled (Err cause) p f = refl
 pending_executed-settled (Ok i) p f =
     let q : Quiet i p.state.core = fetched-quiet p.state.core i f in
     pending_acted-settled (effect_of i p.state.core) p (reads_pair i)
-        (λ e. asked-settled i p (call_of-syscall i p.state.core e) q)
+    (λ e. asked-settled i p (call_of-syscall i p.state.core e) q)
     ∙ ap (λ e. acted e (settled p) (reads_pair i)) (sym (effect_of-settled i p q))
 
 pub pending_going-settled : (e : Ending) (p : Pending) → settled (pending_going e p) ≡ going e (settled p)

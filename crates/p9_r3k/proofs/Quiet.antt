@@ -1,5 +1,5 @@
 -- An instruction does the same, whatever stands in a register that it doesn't read.
-use Rattle.std.proofs.Common.{ℕ, ◌+◌, ◌*◌, ◌/◌, ◌%◌, ◌^◌, ◌==◌, ◌≡◌, ◌≢◌, ◌||◌, ◌&&◌, Bool, true, false, not, Option, Some, None, Result, Ok, Err, refl, sym, ap, ◌∙◌, subst, arith, if◌then◌else◌, List, slice_index, slice_set}
+use Rattle.std.proofs.Common.{ℕ, ◌==◌, ◌≡◌, ◌≢◌, ◌||◌, ◌&&◌, Bool, true, false, not, Option, Some, None, Result, Ok, Err, refl, ap, subst, arith, if◌then◌else◌, List, slice_index, slice_set}
 use Rattle.std.proofs.lemmas.List.{get_or-set_other}
 use Rattle.std.proofs.lemmas.Bool.Decides.{nat_tests}
 use Rattle.p9_r3k.specs.declared.inst.Inst.{Inst}
@@ -8,7 +8,7 @@ use Rattle.p9_r3k.specs.declared.halt.HaltCause.{HaltCause}
 use Rattle.p9_r3k.specs.declared.halt.HaltCause.TheVariants.{Fetch, LoadHazard, HiLoHazard, SlotBranch}
 use Rattle.p9_r3k.specs.declared.halt.Effect.{Effect}
 use Rattle.p9_r3k.specs.declared.halt.Effect.TheVariants as effects
-use Rattle.p9_r3k.specs.Memory.{Core, reg, with_reg, read_word}
+use Rattle.p9_r3k.specs.Memory.{Core, with_reg, read_word}
 use Rattle.p9_r3k.specs.Table.{decoded}
 use Rattle.p9_r3k.specs.Effects.{effect_of, reads, writes_pair, branches}
 use Rattle.p9_r3k.specs.Machine.{in_text, without_hazard, fetched, asked}
@@ -43,9 +43,9 @@ pub effect_of-other :
     (i : Inst) (c : Core) (r v : ℕ) → reads i r ≡ false → effect_of i (with_register c r v) ≡ effect_of i c
 effect_of-other (J index) c r v h = refl
 effect_of-other (Jal index) c r v h = refl
-effect_of-other (Beq rs rt imm) c r v h = 
+effect_of-other (Beq rs rt imm) c r v h =
     rw (other_reg c.regs r v rs (or-left (rs == r) (rt == r) h), other_reg c.regs r v rt (or-right (rs == r) (rt == r) h)) refl
-effect_of-other (Bne rs rt imm) c r v h = 
+effect_of-other (Bne rs rt imm) c r v h =
     rw (other_reg c.regs r v rs (or-left (rs == r) (rt == r) h), other_reg c.regs r v rt (or-right (rs == r) (rt == r) h)) refl
 effect_of-other (Blez rs imm) c r v h = rw (other_reg c.regs r v rs h) refl
 effect_of-other (Bgtz rs imm) c r v h = rw (other_reg c.regs r v rs h) refl
@@ -66,20 +66,20 @@ effect_of-other (Lh rs rt imm) c r v h = rw (other_reg c.regs r v rs h) refl
 effect_of-other (Lw rs rt imm) c r v h = rw (other_reg c.regs r v rs h) refl
 effect_of-other (Lbu rs rt imm) c r v h = rw (other_reg c.regs r v rs h) refl
 effect_of-other (Lhu rs rt imm) c r v h = rw (other_reg c.regs r v rs h) refl
-effect_of-other (Sb rs rt imm) c r v h = 
+effect_of-other (Sb rs rt imm) c r v h =
     rw (other_reg c.regs r v rs (or-left (rs == r) (rt == r) h), other_reg c.regs r v rt (or-right (rs == r) (rt == r) h)) refl
-effect_of-other (Sh rs rt imm) c r v h = 
+effect_of-other (Sh rs rt imm) c r v h =
     rw (other_reg c.regs r v rs (or-left (rs == r) (rt == r) h), other_reg c.regs r v rt (or-right (rs == r) (rt == r) h)) refl
-effect_of-other (Sw rs rt imm) c r v h = 
+effect_of-other (Sw rs rt imm) c r v h =
     rw (other_reg c.regs r v rs (or-left (rs == r) (rt == r) h), other_reg c.regs r v rt (or-right (rs == r) (rt == r) h)) refl
 effect_of-other (Sll rt rd sh) c r v h = rw (other_reg c.regs r v rt h) refl
 effect_of-other (Srl rt rd sh) c r v h = rw (other_reg c.regs r v rt h) refl
 effect_of-other (Sra rt rd sh) c r v h = rw (other_reg c.regs r v rt h) refl
-effect_of-other (Sllv rs rt rd) c r v h = 
+effect_of-other (Sllv rs rt rd) c r v h =
     rw (other_reg c.regs r v rs (or-left (rs == r) (rt == r) h), other_reg c.regs r v rt (or-right (rs == r) (rt == r) h)) refl
-effect_of-other (Srlv rs rt rd) c r v h = 
+effect_of-other (Srlv rs rt rd) c r v h =
     rw (other_reg c.regs r v rs (or-left (rs == r) (rt == r) h), other_reg c.regs r v rt (or-right (rs == r) (rt == r) h)) refl
-effect_of-other (Srav rs rt rd) c r v h = 
+effect_of-other (Srav rs rt rd) c r v h =
     rw (other_reg c.regs r v rs (or-left (rs == r) (rt == r) h), other_reg c.regs r v rt (or-right (rs == r) (rt == r) h)) refl
 effect_of-other (Jr rs) c r v h = rw (other_reg c.regs r v rs h) refl
 effect_of-other (Jalr rs rd) c r v h = rw (other_reg c.regs r v rs h) refl
@@ -89,33 +89,33 @@ effect_of-other (Mfhi rd) c r v h = refl
 effect_of-other (Mthi rs) c r v h = rw (other_reg c.regs r v rs h) refl
 effect_of-other (Mflo rd) c r v h = refl
 effect_of-other (Mtlo rs) c r v h = rw (other_reg c.regs r v rs h) refl
-effect_of-other (Mult rs rt) c r v h = 
+effect_of-other (Mult rs rt) c r v h =
     rw (other_reg c.regs r v rs (or-left (rs == r) (rt == r) h), other_reg c.regs r v rt (or-right (rs == r) (rt == r) h)) refl
-effect_of-other (Multu rs rt) c r v h = 
+effect_of-other (Multu rs rt) c r v h =
     rw (other_reg c.regs r v rs (or-left (rs == r) (rt == r) h), other_reg c.regs r v rt (or-right (rs == r) (rt == r) h)) refl
-effect_of-other (Div rs rt) c r v h = 
+effect_of-other (Div rs rt) c r v h =
     rw (other_reg c.regs r v rs (or-left (rs == r) (rt == r) h), other_reg c.regs r v rt (or-right (rs == r) (rt == r) h)) refl
-effect_of-other (Divu rs rt) c r v h = 
+effect_of-other (Divu rs rt) c r v h =
     rw (other_reg c.regs r v rs (or-left (rs == r) (rt == r) h), other_reg c.regs r v rt (or-right (rs == r) (rt == r) h)) refl
-effect_of-other (Add rs rt rd) c r v h = 
+effect_of-other (Add rs rt rd) c r v h =
     rw (other_reg c.regs r v rs (or-left (rs == r) (rt == r) h), other_reg c.regs r v rt (or-right (rs == r) (rt == r) h)) refl
-effect_of-other (Addu rs rt rd) c r v h = 
+effect_of-other (Addu rs rt rd) c r v h =
     rw (other_reg c.regs r v rs (or-left (rs == r) (rt == r) h), other_reg c.regs r v rt (or-right (rs == r) (rt == r) h)) refl
-effect_of-other (Sub rs rt rd) c r v h = 
+effect_of-other (Sub rs rt rd) c r v h =
     rw (other_reg c.regs r v rs (or-left (rs == r) (rt == r) h), other_reg c.regs r v rt (or-right (rs == r) (rt == r) h)) refl
-effect_of-other (Subu rs rt rd) c r v h = 
+effect_of-other (Subu rs rt rd) c r v h =
     rw (other_reg c.regs r v rs (or-left (rs == r) (rt == r) h), other_reg c.regs r v rt (or-right (rs == r) (rt == r) h)) refl
-effect_of-other (And rs rt rd) c r v h = 
+effect_of-other (And rs rt rd) c r v h =
     rw (other_reg c.regs r v rs (or-left (rs == r) (rt == r) h), other_reg c.regs r v rt (or-right (rs == r) (rt == r) h)) refl
-effect_of-other (Or rs rt rd) c r v h = 
+effect_of-other (Or rs rt rd) c r v h =
     rw (other_reg c.regs r v rs (or-left (rs == r) (rt == r) h), other_reg c.regs r v rt (or-right (rs == r) (rt == r) h)) refl
-effect_of-other (Xor rs rt rd) c r v h = 
+effect_of-other (Xor rs rt rd) c r v h =
     rw (other_reg c.regs r v rs (or-left (rs == r) (rt == r) h), other_reg c.regs r v rt (or-right (rs == r) (rt == r) h)) refl
-effect_of-other (Nor rs rt rd) c r v h = 
+effect_of-other (Nor rs rt rd) c r v h =
     rw (other_reg c.regs r v rs (or-left (rs == r) (rt == r) h), other_reg c.regs r v rt (or-right (rs == r) (rt == r) h)) refl
-effect_of-other (Slt rs rt rd) c r v h = 
+effect_of-other (Slt rs rt rd) c r v h =
     rw (other_reg c.regs r v rs (or-left (rs == r) (rt == r) h), other_reg c.regs r v rt (or-right (rs == r) (rt == r) h)) refl
-effect_of-other (Sltu rs rt rd) c r v h = 
+effect_of-other (Sltu rs rt rd) c r v h =
     rw (other_reg c.regs r v rs (or-left (rs == r) (rt == r) h), other_reg c.regs r v rt (or-right (rs == r) (rt == r) h)) refl
 
 -- a system call's argument words and number stand in registers 29 and 1 alone
@@ -221,7 +221,7 @@ pub fetched-other : (c : Core) (r v : ℕ) → fetched (with_register c r v) ≡
 unfolding fetched
 fetched-other c r v =
     ap (λ (x : Result Inst HaltCause). if in_text c then x else Err Fetch)
-        (without_hazard-other (decoded (read_word c c.pc)) c r v)
+    (without_hazard-other (decoded (read_word c c.pc)) c r v)
 
 abbrev pub Quiet : Inst → Core → Type 0
 Quiet i c = (not (c.loaded == 0) && reads i c.loaded) ≡ false
@@ -239,8 +239,8 @@ pub without_hazard-quiet : (o : Option Inst) (c : Core) (i : Inst) → without_h
 without_hazard-quiet None c i e = cc
 without_hazard-quiet (Some j) c i e =
     let h : ((not (c.loaded == 0) && reads j c.loaded) ≡ false) × (j ≡ i) =
-        three_tests (not (c.loaded == 0) && reads j c.loaded) (writes_pair j && (c.used || c.used_before)) (c.slot && branches j)
-            LoadHazard HiLoHazard SlotBranch i j e in
+    three_tests (not (c.loaded == 0) && reads j c.loaded) (writes_pair j && (c.used || c.used_before)) (c.slot && branches j)
+    LoadHazard HiLoHazard SlotBranch i j e in
     let P : Inst → Type 0 = λ k. Quiet k c in
     subst P h.1 h.0
 

@@ -1,5 +1,5 @@
 -- Runs of both machines: they stay where they ended, compose, write more and read on.
-use Rattle.std.proofs.Common.{ℕ, zero, suc, ◌+◌, ◌≡◌, ◌++◌, List, [], Bool, Option, Some, None, Result, Ok, Err, refl, sym, ap, ◌∙◌, subst, min, length, take, drop, append_assoc, slice_get, if◌then◌else◌, add-zero}
+use Rattle.std.proofs.Common.{ℕ, zero, suc, ◌+◌, ◌≡◌, ◌++◌, List, [], Bool, Option, Some, None, Result, Ok, Err, refl, sym, ap, ◌∙◌, min, length, take, append_assoc, slice_get, if◌then◌else◌, add-zero}
 use Rattle.std.proofs.lemmas.List.{append-nil, take-append-drop}
 use Rattle.std.proofs.Math.Nat.{add-suc}
 use Rattle.p9_r3k.specs.declared.inst.Inst.{Inst}

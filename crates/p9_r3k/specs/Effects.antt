@@ -4,7 +4,6 @@ use Rattle.p9_base.specs.Words.{word_sum, word_difference, is_negative, is_signe
 use Rattle.p9_base.specs.Numbers.{sign_extended}
 use Rattle.p9_r3k.specs.declared.inst.Inst.{Inst}
 use Rattle.p9_r3k.specs.declared.inst.Inst.TheVariants.{J, Jal, Beq, Bne, Blez, Bgtz, Bltz, Bgez, Bltzal, Bgezal, Addi, Addiu, Slti, Sltiu, Andi, Ori, Xori, Lui, Lb, Lh, Lw, Lbu, Lhu, Sb, Sh, Sw, Sll, Srl, Sra, Sllv, Srlv, Srav, Jr, Jalr, Syscall, Break, Mfhi, Mthi, Mflo, Mtlo, Mult, Multu, Div, Divu, Add, Addu, Sub, Subu, And, Or, Xor, Nor, Slt, Sltu}
-use Rattle.p9_r3k.specs.declared.halt.HaltCause.{HaltCause}
 use Rattle.p9_r3k.specs.declared.halt.HaltCause.TheVariants as halts
 use Rattle.p9_r3k.specs.declared.halt.Effect.{Effect}
 use Rattle.p9_r3k.specs.declared.halt.Effect.TheVariants.{Write, Pair, Load, StoreByte, StoreHalf, StoreWord, Branch, JumpTo, Call, Stop}

@@ -1,6 +1,6 @@
 -- The machine whose loads come one instruction later: the value is on its way while the next instruction runs, and a
 -- write by that one to the same register stays.
-use Rattle.std.specs.Prelude.{ℕ, zero, suc, ◌≡◌, Bool, Result, Ok, Err}
+use Rattle.std.specs.Prelude.{ℕ, zero, suc, Bool, Result, Ok, Err}
 use Rattle.p9_r3k.specs.declared.inst.Inst.{Inst}
 use Rattle.p9_r3k.specs.declared.halt.HaltCause.{HaltCause}
 use Rattle.p9_r3k.specs.declared.halt.Ending.{Ending}
@@ -11,7 +11,7 @@ use Rattle.p9_r3k.specs.declared.halt.Asked.{Asked}
 use Rattle.p9_r3k.specs.declared.halt.Asked.TheVariants as asks
 use Rattle.p9_r3k.specs.Memory.{Core, with_reg}
 use Rattle.p9_r3k.specs.Effects.{effect_of, reads_pair}
-use Rattle.p9_r3k.specs.Machine.{State, fetched, advanced, halted, asked, called, acted, step}
+use Rattle.p9_r3k.specs.Machine.{State, fetched, advanced, halted, asked, called, acted}
 
 abbrev pub with_register : Core → ℕ → ℕ → Core
 with_register c r v = record c { regs = with_reg c.regs r v }

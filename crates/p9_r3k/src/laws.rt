@@ -21,13 +21,11 @@ pub fn straight_laws()
 /// The runs of the machine whose loads come one instruction later.
 pub fn pending_laws()
     ensures { LoadsComeLater }
-{
-}
+{}
 
 /// No program changes its own text.
 pub fn text_laws()
     ensures start { StartsLaidOut }
     ensures kept { TextStays }
     ensures words { RunsItsText }
-{
-}
+{}
