@@ -1,0 +1,99 @@
+-- Laws of the machines' runs.
+use Rattle.std.specs.Prelude.{ℕ, ◌+◌, ◌-◌, ◌^◌, ◌≡◌, ◌≤◌, ◌++◌, List, length, take}
+use Rattle.p9_base.specs.Numbers.{word_at}
+use Rattle.p9_r3k.specs.declared.halt.Ending.{Ending}
+use Rattle.p9_r3k.specs.declared.halt.Ending.TheVariants.{Running, Exited, Halted}
+use Rattle.p9_r3k.specs.declared.lines.Line.{Line}
+use Rattle.p9_r3k.specs.Memory.{Core, text_start, stack_start, stack_end, low_end, read_word}
+use Rattle.p9_r3k.specs.Machine.{State, run}
+use Rattle.p9_r3k.specs.Start.{start}
+use Rattle.p9_r3k.specs.Pending.{Pending, settled, pending_run}
+use Rattle.p9_r3k.specs.Straight.{Addresses, Straight, straight_run}
+
+abbrev pub HasEnded : Ending → Type 0
+HasEnded Running = ⊥
+HasEnded (Exited at len) = Unit {0}
+HasEnded (Halted cause pc) = Unit {0}
+
+abbrev pub EndedStays : Type 0
+EndedStays = (n : ℕ) (s : State) → HasEnded s.core.ending → run n s ≡ s
+
+abbrev pub RunsCompose : Type 0
+RunsCompose = (m n : ℕ) (s : State) → run (m + n) s ≡ run n (run m s)
+
+-- the second list begins with the first
+abbrev pub Extends : List ℕ → List ℕ → Type 0
+Extends xs ys = (more : List ℕ) × (ys ≡ xs ++ more)
+
+-- the first list ends with the second
+abbrev pub EndsWith : List ℕ → List ℕ → Type 0
+EndsWith xs ys = (before : List ℕ) × (xs ≡ before ++ ys)
+
+abbrev pub OutputGrows : Type 0
+OutputGrows = (n : ℕ) (s : State) → Extends s.out (run n s).out
+
+abbrev pub InputShrinks : Type 0
+InputShrinks = (n : ℕ) (s : State) → EndsWith s.left (run n s).left
+
+-- text, data and stack lie one behind the other
+pub record LaidOut (c : Core) : Type 0 where
+  pub text : text_start ≤ c.text_end
+  pub gap : c.text_end ≤ c.data_start
+  pub data_and_bss : c.data_start ≤ low_end c
+  pub above : low_end c ≤ stack_start
+  pub stack_size : length c.stack ≡ stack_end - stack_start
+
+-- the places and sizes are the same, and so is every byte below the data
+pub record KeepsText (c d : Core) : Type 0 where
+  pub text_end : d.text_end ≡ c.text_end
+  pub data_start : d.data_start ≡ c.data_start
+  pub low_size : length d.low ≡ length c.low
+  pub stack_size : length d.stack ≡ length c.stack
+  pub below_data : take (c.data_start - text_start) d.low ≡ take (c.data_start - text_start) c.low
+
+abbrev pub TextStays : Type 0
+TextStays = (n : ℕ) (s : State) → LaidOut s.core → KeepsText s.core (run n s).core
+
+-- an image's text, data with bss, within what the machine has room for
+abbrev pub ImageFits : (text init : List ℕ) → (bss : ℕ) → Type 0
+ImageFits text init bss = (length text ≤ 2 ^ 25) × (length init + bss ≤ 2 ^ 24)
+
+abbrev pub StartsLaidOut : Type 0
+StartsLaidOut =
+    (text init : List ℕ) (bss entry : ℕ) (input : List ℕ) →
+    ImageFits text init bss → LaidOut (start text init bss entry input).core
+
+-- at every step the words of the text are the image's
+abbrev pub RunsItsText : Type 0
+RunsItsText =
+    (text init : List ℕ) (bss entry : ℕ) (input : List ℕ) (n a : ℕ) →
+    ImageFits text init bss → text_start ≤ a → a + 4 ≤ text_start + length text →
+    read_word (run n (start text init bss entry input)).core a ≡ word_at text (a - text_start)
+
+-- Of the straight machine
+
+abbrev pub StraightEndedStays : Type 0
+StraightEndedStays =
+    (a : Addresses) (lines : List Line) (n : ℕ) (x : Straight) →
+    HasEnded x.state.core.ending → straight_run a lines n x ≡ x
+
+abbrev pub StraightRunsCompose : Type 0
+StraightRunsCompose =
+    (a : Addresses) (lines : List Line) (m n : ℕ) (x : Straight) →
+    straight_run a lines (m + n) x ≡ straight_run a lines n (straight_run a lines m x)
+
+abbrev pub StraightOutputGrows : Type 0
+StraightOutputGrows =
+    (a : Addresses) (lines : List Line) (n : ℕ) (x : Straight) →
+    Extends x.state.out (straight_run a lines n x).state.out
+
+abbrev pub StraightInputShrinks : Type 0
+StraightInputShrinks =
+    (a : Addresses) (lines : List Line) (n : ℕ) (x : Straight) →
+    EndsWith x.state.left (straight_run a lines n x).state.left
+
+-- Of the machine whose loads come one instruction later
+
+-- it stands as the machine whose loads come at once, but for the value that is on its way
+abbrev pub LoadsComeLater : Type 0
+LoadsComeLater = (n : ℕ) (p : Pending) → settled (pending_run n p) ≡ run n (settled p)

@@ -1,0 +1,17 @@
+//! The R3000: its table of instructions, and its machine with branch slots and load delays.
+#![tactic(auto)]
+
+mod code;
+mod halt;
+mod inst;
+mod laws;
+mod lines;
+
+pub use code::{decode, encode};
+pub use halt::{Asked, Effect, Ending, HaltCause};
+pub use inst::Inst;
+pub use laws::{machine_laws, pending_laws, straight_laws, text_laws};
+pub use lines::{Line, Lines, Part, Value};
+
+#[cfg(test)]
+mod tests;

@@ -1,0 +1,39 @@
+// Lines of a program before its addresses are known.
+
+use crate::inst::Inst;
+use std::alloc::Global;
+
+/// Which piece of an address a line takes: the half words of LUI and ORI or of a load or store, or the
+/// index of a jump.
+#[derive(Clone, Copy, PartialEq, Eq, Debug)]
+pub enum Part {
+    High,
+    Low,
+    Jump,
+}
+
+/// A piece of an address, of `offset` bytes after a symbol of a module.
+#[derive(Clone, Copy, PartialEq, Eq, Debug)]
+pub struct Value {
+    pub part: Part,
+    pub module: u32,
+    pub symbol: u32,
+    pub offset: u32,
+}
+
+/// An instruction. `target` is the number of the line that a branch or jump goes to, `value` what is
+/// filled into the instruction once addresses are known, and `is_target` says that control may come
+/// to the line from elsewhere.
+#[derive(Clone, Copy, PartialEq, Eq, Debug)]
+pub struct Line {
+    pub inst: Inst,
+    pub target: Option<u32>,
+    pub value: Option<Value>,
+    pub is_target: bool,
+}
+
+/// The lines of a program, numbered from 0.
+#[derive(Drop)]
+pub struct Lines {
+    pub list: Vec<Line>,
+}
