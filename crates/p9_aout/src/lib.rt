@@ -1,0 +1,13 @@
+//! Executables of the a.out format: an image of text and data as bytes, and bytes as an image.
+#![tactic(auto)]
+
+mod format;
+mod reader;
+mod writer;
+
+#[cfg(test)]
+mod tests;
+
+pub use format::{AoutFault, AoutSym, Image};
+pub use reader::read_aout;
+pub use writer::write_aout;
