@@ -1,5 +1,6 @@
 -- The symbol entries of an executable.
 use Rattle.std.specs.Prelude.{ℕ, ◌+◌, ◌%◌, List, [], ◌∷◌, ◌++◌, Contains}
+use Rattle.std.specs.List.{flat_map}
 use Rattle.p9_base.specs.Numbers.{word_bytes}
 use Rattle.p9_aout.specs.declared.format.AoutSym.{AoutSym}
 
@@ -13,8 +14,7 @@ entry_bytes symbol = word_bytes symbol.value ++ type_byte symbol.letter ∷ (sym
 
 -- the entries, in order
 abbrev pub symbol_bytes : List AoutSym → List ℕ
-symbol_bytes [] = []
-symbol_bytes (symbol ∷ rest) = entry_bytes symbol ++ symbol_bytes rest
+symbol_bytes symbols = flat_map entry_bytes symbols
 
 -- no byte of the name would end it
 abbrev pub HasWholeName : AoutSym → Type 0

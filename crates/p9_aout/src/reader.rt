@@ -1,8 +1,8 @@
 // Bytes as an executable.
-ghost use Rattle.std.specs.Prelude.{◌≡◌, ◌+◌, ◌≤◌, ◌↔◌, ℕ, [], length, IfOk, IsErrOf};
+ghost use Rattle.std.specs.Prelude.{◌≡◌, ◌+◌, ◌≤◌, ◌↔◌, ℕ, [], true, length, IfOk, IfErr, IsErrOf};
 ghost use Rattle.p9_base.specs.Numbers.{word_at};
 ghost use Rattle.p9_aout.specs.Header.{header_of, has_good_segments, file_size};
-ghost use Rattle.p9_aout.specs.Image.{image_of, parts_of, IsWithinBounds};
+ghost use Rattle.p9_aout.specs.Image.{image_of, parts_of, parts_at, IsWithinBounds};
 
 use crate::format::{AoutFault, HEADER_SIZE, Header, Image, MAGIC, MOST_DATA, MOST_TEXT, TEXT_START};
 use byteorder::{BigEndian, ByteOrder};
@@ -58,17 +58,17 @@ fn file_size(header: &Header) -> u64
         + u64::from(header.pc_size)
 }
 
-/// The image of a file's bytes, without its symbols. Of several faults the first counts, in the order
-/// of a file too short for a header, the magic number, the sizes with the entry, and a file too short
-/// for its sizes.
-pub fn read_aout(alloc: Global, bytes: &[u8]) -> Result<Image, AoutFault>
-    ensures image { IfOk result (λ image. image_of bytes.now ≡ Ok (parts_of image)) }
-    ensures bounds { IfOk result (λ image. IsWithinBounds (parts_of image)) }
-    ensures no_symbols { IfOk result (λ image. image.syms.items ≡ []) }
-
-    ensures magic { (m : ℕ) → IsErrOf result (AoutFault.BadMagic m) ↔ (image_of bytes.now ≡ Err (AoutFault.BadMagic m)) }
-    ensures short { (need : ℕ) → IsErrOf result (AoutFault.ShortFile need) ↔ (image_of bytes.now ≡ Err (AoutFault.ShortFile need)) }
-    ensures segment { IsErrOf result AoutFault.BadSegment ↔ (image_of bytes.now ≡ Err AoutFault.BadSegment) }
+// The header of an image, or the first fault.
+#[tactic(auto, using(
+    crate::proofs::Reading::no_header, crate::proofs::Reading::other_magic, crate::proofs::Reading::bad_segment,
+    crate::proofs::Reading::cut_short, crate::proofs::Reading::whole
+))]
+fn checked_header(bytes: &[u8]) -> Result<Header, AoutFault>
+    ensures header { IfOk result (λ header. header ≡ header_of bytes.now) }
+    ensures good { IfOk result (λ header. has_good_segments header ≡ true) }
+    ensures long { IfOk result (λ header. file_size header ≤ length bytes.now) }
+    ensures image { IfOk result (λ header. image_of bytes.now ≡ Ok (parts_at bytes.now header)) }
+    ensures fault { IfErr result (λ fault. image_of bytes.now ≡ Err fault) }
 {
     if bytes.len() < HEADER_SIZE {
         return Err(AoutFault::ShortFile(32));
@@ -84,19 +84,42 @@ pub fn read_aout(alloc: Global, bytes: &[u8]) -> Result<Image, AoutFault>
     if (bytes.len() as u64) < need {
         return Err(AoutFault::ShortFile(need));
     }
-    image_at(alloc, bytes, &header)
+    Ok(header)
 }
 
-// The image whose header was read.
+// The parts of a file with this header.
 fn image_at(alloc: Global, bytes: &[u8], header: &Header) -> Result<Image, AoutFault>
+    requires { file_size header.now ≤ length bytes.now }
+    ensures parts { IfOk result (λ image. parts_of image ≡ parts_at bytes.now header.now) }
+    ensures no_symbols { IfOk result (λ image. image.syms.items ≡ []) }
+    ensures memory { IfErr result (λ fault. fault ≡ AoutFault.Memory) }
 {
     let text_end = HEADER_SIZE + header.text_size as usize;
     let data_end = text_end + header.data_size as usize;
+    let text = bytes[HEADER_SIZE..text_end].to_vec(alloc)?;
+    let init = bytes[text_end..data_end].to_vec(alloc)?;
     Ok(Image {
         entry: header.entry,
-        text: Bytes { list: bytes[HEADER_SIZE..text_end].to_vec(alloc)? },
-        init: Bytes { list: bytes[text_end..data_end].to_vec(alloc)? },
+        text: Bytes { list: text },
+        init: Bytes { list: init },
         bss: header.bss_size,
         syms: Vec::new(alloc),
     })
+}
+
+#[tactic(auto, using(crate::proofs::Reading::within_bounds))]
+/// The image of a file's bytes, without its symbols. Of several faults the first counts, in the order
+/// of a file too short for a header, the magic number, the sizes with the entry, and a file too short
+/// for its sizes.
+pub fn read_aout(alloc: Global, bytes: &[u8]) -> Result<Image, AoutFault>
+    ensures image { IfOk result (λ image. image_of bytes.now ≡ Ok (parts_of image)) }
+    ensures bounds { IfOk result (λ image. IsWithinBounds (parts_of image)) }
+    ensures no_symbols { IfOk result (λ image. image.syms.items ≡ []) }
+
+    ensures magic { (m : ℕ) → IsErrOf result (AoutFault.BadMagic m) ↔ (image_of bytes.now ≡ Err (AoutFault.BadMagic m)) }
+    ensures short { (need : ℕ) → IsErrOf result (AoutFault.ShortFile need) ↔ (image_of bytes.now ≡ Err (AoutFault.ShortFile need)) }
+    ensures segment { IsErrOf result AoutFault.BadSegment ↔ (image_of bytes.now ≡ Err AoutFault.BadSegment) }
+{
+    let header = checked_header(bytes)?;
+    image_at(alloc, bytes, &header)
 }

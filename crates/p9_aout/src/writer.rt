@@ -32,7 +32,8 @@ fn push_header(out: &mut Vec<u8>, header: &Header) -> Result<(), NoMemory>
     push_word(out, header.syms_size)?;
     push_word(out, header.entry)?;
     push_word(out, header.sp_size)?;
-    push_word(out, header.pc_size)
+    push_word(out, header.pc_size)?;
+    Ok(())
 }
 
 // Appends a symbol entry.
@@ -57,6 +58,7 @@ fn symbol_table(alloc: Global, symbols: &[AoutSym]) -> Result<Vec<u8>, NoMemory>
     Ok(table)
 }
 
+#[tactic(auto, using(crate::proofs::Writing::read_back), unfolding(crate::specs::Spelled::spelled))]
 /// The bytes of an executable, with the symbols in the order given and no table for debuggers.
 pub fn write_aout(alloc: Global, image: &Image) -> Result<Bytes, NoMemory>
     requires bounds { IsWithinBounds (parts_of image.now) }
