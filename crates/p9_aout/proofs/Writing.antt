@@ -1,5 +1,5 @@
 -- What is written is read back.
-use Rattle.std.proofs.Common.{◌≡◌, ◌<◌, ◌≤◌, ℕ, ◌+◌, ◌*◌, ◌/◌, ◌%◌, ◌^◌, true, ◌&&◌, eqb, ltb, leb, List, ◌++◌, length, take, drop, Result, Ok, arith, sym, refl, ap, ◌∙◌, length-append, append_assoc}
+use Rattle.std.proofs.Common.{◌≡◌, ◌<◌, ◌≤◌, ℕ, ◌+◌, ◌*◌, ◌/◌, ◌%◌, ◌^◌, true, ◌&&◌, eqb, ltb, leb, List, ◌++◌, length, take, drop, Result, Ok, Err, IfOk, arith, sym, refl, ap, ◌∙◌, length-append, append_assoc}
 use Rattle.std.proofs.lemmas.Bool.Decides.{nat_tests}
 use Rattle.std.proofs.Math.Seq.{take-append_seam, drop-append_seam, drop-append-add}
 use Rattle.p9_aout.specs.declared.format.Header.{Header}
@@ -11,7 +11,7 @@ use Rattle.p9_aout.specs.Symbols.{symbol_bytes}
 use Rattle.p9_aout.specs.Spelled.{spelled, header_for}
 use Rattle.p9_aout.proofs.Reading.{whole}
 
-word_back : (w : ℕ) → w < 2 ^ 32 → w / 2 ^ 24 % 2 ^ 8 * 2 ^ 24 + w / 2 ^ 16 % 2 ^ 8 * 2 ^ 16 + w / 2 ^ 8 % 2 ^ 8 * 2 ^ 8 + w % 2 ^ 8 ≡ w
+pub word_back : (w : ℕ) → w < 2 ^ 32 → w / 2 ^ 24 % 2 ^ 8 * 2 ^ 24 + w / 2 ^ 16 % 2 ^ 8 * 2 ^ 16 + w / 2 ^ 8 % 2 ^ 8 * 2 ^ 8 + w % 2 ^ 8 ≡ w
 word_back w fits = omega arith
 
 -- the words of a header have 32 bits
@@ -77,6 +77,12 @@ read_back image bounds symbols =
       sp_size = omega arith;
       pc_size = omega arith;
     }) refl good refl refl (omega arith)
+
+pub bytes_read_back : {E : Type 0} (answer : Result (List ℕ) E) (image : Image) → IfOk answer (λ bytes. bytes ≡ spelled image) →
+    IsWithinBounds (parts_of image) → length (symbol_bytes image.syms.items) < 2 ^ 32 →
+    IfOk answer (λ bytes. image_of bytes ≡ Ok (parts_of image))
+bytes_read_back (Ok bytes) image is bounds symbols = rw is (read_back image bounds symbols)
+bytes_read_back (Err e) image is bounds symbols = tt
 
 -- eight lists appended in turn
 pub eight_appended : (s s1 s2 s3 s4 s5 s6 s7 s8 a b c d e f g h : List ℕ) →

@@ -1,5 +1,5 @@
 -- The bytes of an image.
-use Rattle.std.specs.Prelude.{ℕ, List, ◌++◌, length}
+use Rattle.std.specs.Prelude.{ℕ, ◌+◌, List, ◌++◌, length, drop}
 use Rattle.p9_aout.specs.declared.format.Image.{Image}
 use Rattle.p9_aout.specs.declared.format.Header.{Header}
 use Rattle.p9_aout.specs.Header.{header_bytes}
@@ -21,3 +21,7 @@ header_for image = record {
 -- the header, the text, the data, the symbol entries
 unfoldable pub spelled : Image → List ℕ
 spelled image = header_bytes (header_for image) ++ (image.text ++ (image.init ++ symbol_bytes image.syms.items))
+
+-- the bytes of a file from the symbol entries on
+abbrev pub symbol_part : Image → List ℕ → List ℕ
+symbol_part image bytes = drop (32 + (length image.text + length image.init)) bytes
