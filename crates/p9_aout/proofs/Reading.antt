@@ -4,7 +4,7 @@ use Rattle.std.proofs.lemmas.Bool.Decides.{nat_tests}
 use Rattle.std.proofs.lemmas.List.{length-take-le}
 use Rattle.p9_aout.specs.declared.format.Header.{Header}
 use Rattle.p9_aout.specs.declared.format.AoutFault.{AoutFault}
-use Rattle.p9_aout.specs.declared.format.AoutFault.TheVariants.{BadMagic, ShortFile, BadSegment}
+use Rattle.p9_aout.specs.declared.format.AoutFault.TheVariants.{BadMagic, ShortFile, BadSegment, Memory}
 use Rattle.p9_aout.specs.Header.{header_of, has_good_segments, file_size}
 use Rattle.p9_aout.specs.Image.{image_of, parts_at, ImageParts, IsWithinBounds}
 
@@ -49,3 +49,13 @@ within_bounds bytes h good long =
       entry_from = facts.5;
       entry_below = rw text facts.6;
     }
+
+-- for callers: want of memory is no fault of bytes
+pub not_memory : (bytes : List ℕ) → image_of bytes ≢ Err Memory
+unfolding image_of
+not_memory bytes = ?
+
+-- for callers: an image is within the bounds
+pub image_within_bounds : (bytes : List ℕ) (parts : ImageParts) → image_of bytes ≡ Ok parts → IsWithinBounds parts
+unfolding image_of
+image_within_bounds bytes parts is = ?

@@ -24,7 +24,7 @@ pub struct AoutSym {
 }
 
 /// Why bytes are no executable, or that memory ran out.
-#[derive(Debug, Drop, Error)]
+#[derive(Clone, Copy, Debug, PartialEq, Eq, Drop, Error)]
 pub enum AoutFault {
     #[error("magic number {0}")]
     BadMagic(u32),

@@ -107,10 +107,10 @@ fn image_at(alloc: Global, bytes: &[u8], header: &Header) -> Result<Image, AoutF
     })
 }
 
-#[tactic(auto, using(crate::proofs::Reading::within_bounds))]
 /// The image of a file's bytes, without its symbols. Of several faults the first counts, in the order
 /// of a file too short for a header, the magic number, the sizes with the entry, and a file too short
-/// for its sizes.
+/// for its sizes. No memory is asked for where the bytes are refused.
+#[tactic(auto, using(crate::proofs::Reading::within_bounds))]
 pub fn read_aout(alloc: Global, bytes: &[u8]) -> Result<Image, AoutFault>
     ensures image { IfOk result (λ image. image_of bytes.now ≡ Ok (parts_of image)) }
     ensures bounds { IfOk result (λ image. IsWithinBounds (parts_of image)) }
