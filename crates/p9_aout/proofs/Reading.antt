@@ -1,5 +1,6 @@
 -- The image of bytes, test by test.
-use Rattle.std.proofs.Common.{◌≡◌, ◌≢◌, ◌<◌, ◌≤◌, ℕ, ◌+◌, ◌%◌, Bool, true, false, not, ◌&&◌, eqb, ltb, leb, List, length, take, drop, Result, Ok, Err, arith, sym, length-drop}
+use Rattle.std.proofs.Common.{◌≡◌, ◌≢◌, ◌<◌, ◌≤◌, ℕ, ◌+◌, ◌%◌, Bool, true, false, not, ◌&&◌, eqb, ltb, leb, List, length, take, drop, Result, Ok, Err, arith, sym, refl, ◌⊎◌, inl, inr, length-drop}
+use Rattle.std.proofs.lemmas.Bool.{cases_lt, cases_eq, cases_Bool}
 use Rattle.std.proofs.lemmas.Bool.Decides.{nat_tests}
 use Rattle.std.proofs.lemmas.List.{length-take-le}
 use Rattle.p9_aout.specs.declared.format.Header.{Header}
@@ -50,12 +51,37 @@ within_bounds bytes h good long =
       entry_below = rw text facts.6;
     }
 
+-- what bytes may be: refused, not for want of memory, or a file with good segments and all its bytes
+image_cases : (bytes : List ℕ) →
+    ((fault : AoutFault) × (image_of bytes ≡ Err fault) × (fault ≢ Memory))
+    ⊎ ((has_good_segments (header_of bytes) ≡ true) × (file_size (header_of bytes) ≤ length bytes) × (image_of bytes ≡ Ok (parts_at bytes (header_of bytes))))
+image_cases bytes =
+    let h = header_of bytes in
+    elim (cases_lt (length bytes) 32) [
+      inl short ↦ inl (ShortFile 32, no_header bytes short, λ e. cc)
+    | inr long ↦ elim (cases_eq h.magic 0x407) [
+        inr other ↦ inl (BadMagic h.magic, other_magic bytes h refl long other, λ e. cc)
+      | inl magic ↦ elim (cases_Bool (has_good_segments h)) [
+          inr bad ↦ inl (BadSegment, bad_segment bytes h refl long magic bad, λ e. cc)
+        | inl good ↦ elim (cases_lt (length bytes) (file_size h)) [
+            inl cut ↦ inl (ShortFile (file_size h), cut_short bytes h refl long magic good cut, λ e. cc)
+          | inr all ↦ inr (good, all, whole bytes h refl magic good all)
+          ]
+        ]
+      ]
+    ]
+
 -- for callers: want of memory is no fault of bytes
 pub not_memory : (bytes : List ℕ) → image_of bytes ≢ Err Memory
-unfolding image_of
-not_memory bytes = ?
+not_memory bytes is =
+    elim (image_cases bytes) [ inl refused ↦ refused.2 (cc (refused.1)) | inr read ↦ cc (read.2) ]
 
 -- for callers: an image is within the bounds
 pub image_within_bounds : (bytes : List ℕ) (parts : ImageParts) → image_of bytes ≡ Ok parts → IsWithinBounds parts
-unfolding image_of
-image_within_bounds bytes parts is = ?
+image_within_bounds bytes parts is =
+    elim (image_cases bytes) [
+      inl refused ↦ cc (refused.1)
+    | inr read ↦
+      let same : parts_at bytes (header_of bytes) ≡ parts = cc (read.2) in
+      rw same at (within_bounds bytes (header_of bytes) read.0 read.1)
+    ]
