@@ -1,9 +1,9 @@
 -- The symbols that are written are found again.
-use Rattle.std.proofs.Common.{◌≡◌, ◌≢◌, ◌<◌, ℕ, zero, suc, ◌+◌, ◌*◌, ◌/◌, ◌%◌, ◌^◌, Bool, true, false, not, cond, eqb, List, [], ◌∷◌, ◌++◌, length, take, drop, get_or, Result, Ok, Err, IfOk, OnOk, arith, sym, refl, ap, ◌∙◌, append_assoc}
+use Rattle.std.proofs.Common.{◌≡◌, ◌≢◌, ◌<◌, ℕ, suc, ◌+◌, ◌%◌, true, not, eqb, List, [], ◌∷◌, ◌++◌, length, take, drop, get_or, Result, Ok, Err, IfOk, OnOk, arith, sym, refl, ap, ◌∙◌, append_assoc}
 use Rattle.std.proofs.lemmas.List.{append-nil, take_more}
 use Rattle.std.proofs.lemmas.List.Concat.{flat_map-append}
 use Rattle.std.proofs.lemmas.List.Elements.{All-push}
-use Rattle.std.specs.List.{All, Contains, take_while, flat_map}
+use Rattle.std.specs.List.{All, Contains}
 use Rattle.std.proofs.lemmas.Bool.Decides.{nat_tests}
 use Rattle.std.proofs.lemmas.List.Sums.{take_while-cons}
 use Rattle.std.proofs.Math.Seq.{drop-append-add, drop-append_seam}
@@ -54,9 +54,9 @@ symbols_read_back (Ok bytes) image is fits plain whole =
     let head = header_bytes (header_for image) in
     let table = symbol_bytes image.syms.items in
     let part : drop (32 + (length image.text + length image.init)) (head ++ (image.text ++ (image.init ++ table))) ≡ table =
-      drop-append-add head (image.text ++ (image.init ++ table)) (length image.text + length image.init)
-      ∙ drop-append-add image.text (image.init ++ table) (length image.init)
-      ∙ drop-append_seam image.init table in
+    drop-append-add head (image.text ++ (image.init ++ table)) (length image.text + length image.init)
+    ∙ drop-append-add image.text (image.init ++ table) (length image.init)
+    ∙ drop-append_seam image.init table in
     rw (is, part) (rw (append-nil table) at (symbols_back image.syms.items [] fits plain whole))
 symbols_read_back (Err e) image is fits plain whole = tt
 
@@ -65,12 +65,12 @@ pub entries_more : (symbols : List AoutSym) (i : ℕ) (symbol : AoutSym) (table 
     i < length symbols → symbol ≡ get_or symbols i symbol → later ≡ table ++ entry_bytes symbol → later ≡ symbol_bytes (take (i + 1) symbols)
 entries_more symbols i symbol table later before below is pushed =
     let taken : take (i + 1) symbols ≡ take i symbols ++ symbol ∷ [] =
-      take_more symbols i symbol below ∙ ap (λ (s : AoutSym). take i symbols ++ s ∷ []) (sym is) in
+    take_more symbols i symbol below ∙ ap (λ (s : AoutSym). take i symbols ++ s ∷ []) (sym is) in
     rw (pushed, before, taken, flat_map-append entry_bytes (take i symbols) (symbol ∷ [])) (sym (ap (λ (bytes : List ℕ). symbol_bytes (take i symbols) ++ bytes) (append-nil (entry_bytes symbol))))
 
 pub words_more : (symbols : List AoutSym) (i : ℕ) (symbol : AoutSym) → All HasWordValue (take i symbols) →
     i < length symbols → symbol ≡ get_or symbols i symbol → HasWordValue symbol → All HasWordValue (take (i + 1) symbols)
 words_more symbols i symbol before below is word =
     let taken : take (i + 1) symbols ≡ take i symbols ++ symbol ∷ [] =
-      take_more symbols i symbol below ∙ ap (λ (s : AoutSym). take i symbols ++ s ∷ []) (sym is) in
+    take_more symbols i symbol below ∙ ap (λ (s : AoutSym). take i symbols ++ s ∷ []) (sym is) in
     rw taken (All-push HasWordValue (take i symbols) symbol before word)

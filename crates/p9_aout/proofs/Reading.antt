@@ -1,5 +1,5 @@
 -- The image of bytes, test by test.
-use Rattle.std.proofs.Common.{◌≡◌, ◌≢◌, ◌<◌, ◌≤◌, ℕ, ◌+◌, ◌%◌, Bool, true, false, not, ◌&&◌, eqb, ltb, leb, List, length, take, drop, Result, Ok, Err, arith, sym, refl, ◌⊎◌, inl, inr, length-drop}
+use Rattle.std.proofs.Common.{◌≡◌, ◌≢◌, ◌<◌, ◌≤◌, ℕ, ◌+◌, ◌%◌, true, false, ◌&&◌, eqb, ltb, leb, List, length, drop, Ok, Err, arith, refl, ◌⊎◌, inl, inr, length-drop}
 use Rattle.std.proofs.lemmas.Bool.{cases_lt, cases_eq, cases_Bool}
 use Rattle.std.proofs.lemmas.Bool.Decides.{nat_tests}
 use Rattle.std.proofs.lemmas.List.{length-take-le}
@@ -58,14 +58,14 @@ image_cases : (bytes : List ℕ) →
 image_cases bytes =
     let h = header_of bytes in
     elim (cases_lt (length bytes) 32) [
-      inl short ↦ inl (ShortFile 32, no_header bytes short, λ e. cc)
-    | inr long ↦ elim (cases_eq h.magic 0x407) [
-        inr other ↦ inl (BadMagic h.magic, other_magic bytes h refl long other, λ e. cc)
-      | inl magic ↦ elim (cases_Bool (has_good_segments h)) [
-          inr bad ↦ inl (BadSegment, bad_segment bytes h refl long magic bad, λ e. cc)
-        | inl good ↦ elim (cases_lt (length bytes) (file_size h)) [
-            inl cut ↦ inl (ShortFile (file_size h), cut_short bytes h refl long magic good cut, λ e. cc)
-          | inr all ↦ inr (good, all, whole bytes h refl magic good all)
+      | inl short ↦ inl (ShortFile 32, no_header bytes short, λ e. cc)
+      | inr long ↦ elim (cases_eq h.magic 0x407) [
+        | inr other ↦ inl (BadMagic h.magic, other_magic bytes h refl long other, λ e. cc)
+        | inl magic ↦ elim (cases_Bool (has_good_segments h)) [
+          | inr bad ↦ inl (BadSegment, bad_segment bytes h refl long magic bad, λ e. cc)
+          | inl good ↦ elim (cases_lt (length bytes) (file_size h)) [
+            | inl cut ↦ inl (ShortFile (file_size h), cut_short bytes h refl long magic good cut, λ e. cc)
+            | inr all ↦ inr (good, all, whole bytes h refl magic good all)
           ]
         ]
       ]
@@ -80,8 +80,8 @@ not_memory bytes is =
 pub image_within_bounds : (bytes : List ℕ) (parts : ImageParts) → image_of bytes ≡ Ok parts → IsWithinBounds parts
 image_within_bounds bytes parts is =
     elim (image_cases bytes) [
-      inl refused ↦ cc (refused.1)
-    | inr read ↦
-      let same : parts_at bytes (header_of bytes) ≡ parts = cc (read.2) in
-      rw same at (within_bounds bytes (header_of bytes) read.0 read.1)
+      | inl refused ↦ cc (refused.1)
+      | inr read ↦
+          let same : parts_at bytes (header_of bytes) ≡ parts = cc (read.2) in
+          rw same at (within_bounds bytes (header_of bytes) read.0 read.1)
     ]

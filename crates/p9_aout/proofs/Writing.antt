@@ -1,9 +1,8 @@
 -- What is written is read back.
-use Rattle.std.proofs.Common.{◌≡◌, ◌<◌, ◌≤◌, ℕ, ◌+◌, ◌*◌, ◌/◌, ◌%◌, ◌^◌, true, ◌&&◌, eqb, ltb, leb, List, ◌++◌, length, take, drop, Result, Ok, Err, IfOk, arith, sym, refl, ap, ◌∙◌, length-append, append_assoc}
+use Rattle.std.proofs.Common.{◌≡◌, ◌<◌, ◌≤◌, ℕ, ◌+◌, ◌*◌, ◌/◌, ◌%◌, ◌^◌, true, ◌&&◌, eqb, ltb, leb, List, ◌++◌, length, take, drop, Result, Ok, Err, IfOk, arith, refl, ap, ◌∙◌, length-append, append_assoc}
 use Rattle.std.proofs.lemmas.Bool.Decides.{nat_tests}
 use Rattle.std.proofs.Math.Seq.{take-append_seam, drop-append_seam, drop-append-add}
 use Rattle.p9_aout.specs.declared.format.Header.{Header}
-use Rattle.p9_aout.specs.declared.format.AoutFault.{AoutFault}
 use Rattle.p9_aout.specs.declared.format.Image.{Image}
 use Rattle.p9_aout.specs.Header.{header_of, header_bytes, has_good_segments, file_size}
 use Rattle.p9_aout.specs.Image.{image_of, parts_at, parts_of, ImageParts, IsWithinBounds}
@@ -27,9 +26,16 @@ record HasWords (h : Header) : Type 0 where
 
 header_back : (h : Header) (rest : List ℕ) → HasWords h → h ≡ header_of (header_bytes h ++ rest)
 header_back h rest fits =
-    rw (word_back h.magic fits.magic, word_back h.text_size fits.text_size, word_back h.data_size fits.data_size,
-      word_back h.bss_size fits.bss_size, word_back h.syms_size fits.syms_size, word_back h.entry fits.entry,
-      word_back h.sp_size fits.sp_size, word_back h.pc_size fits.pc_size) refl
+    rw (
+      word_back h.magic fits.magic,
+      word_back h.text_size fits.text_size,
+      word_back h.data_size fits.data_size,
+      word_back h.bss_size fits.bss_size,
+      word_back h.syms_size fits.syms_size,
+      word_back h.entry fits.entry,
+      word_back h.sp_size fits.sp_size,
+      word_back h.pc_size fits.pc_size,
+    ) refl
 
 text_back : (size : ℕ) (head text rest : List ℕ) → length head ≡ 32 → size ≡ length text →
     take size (drop 32 (head ++ (text ++ rest))) ≡ text

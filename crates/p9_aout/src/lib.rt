@@ -3,10 +3,9 @@
 
 mod format;
 mod reader;
-mod writer;
-
 #[cfg(test)]
 mod tests;
+mod writer;
 
 pub use format::{AoutFault, AoutSym, Image};
 pub use reader::read_aout;

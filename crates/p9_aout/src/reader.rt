@@ -4,7 +4,9 @@ ghost use Rattle.p9_base.specs.Numbers.{word_at};
 ghost use Rattle.p9_aout.specs.Header.{header_of, has_good_segments, file_size};
 ghost use Rattle.p9_aout.specs.Image.{image_of, parts_of, parts_at, IsWithinBounds};
 
-use crate::format::{AoutFault, HEADER_SIZE, Header, Image, MAGIC, MOST_DATA, MOST_TEXT, TEXT_START};
+use crate::format::{
+    AoutFault, HEADER_SIZE, Header, Image, MAGIC, MOST_DATA, MOST_TEXT, TEXT_START,
+};
 use byteorder::{BigEndian, ByteOrder};
 use p9_base::Bytes;
 use std::alloc::Global;
@@ -59,10 +61,7 @@ fn file_size(header: &Header) -> u64
 }
 
 // The header of an image, or the first fault.
-#[tactic(auto, using(
-    crate::proofs::Reading::no_header, crate::proofs::Reading::other_magic, crate::proofs::Reading::bad_segment,
-    crate::proofs::Reading::cut_short, crate::proofs::Reading::whole
-))]
+#[tactic(auto, using(crate::proofs::Reading::no_header, crate::proofs::Reading::other_magic, crate::proofs::Reading::bad_segment, crate::proofs::Reading::cut_short, crate::proofs::Reading::whole))]
 fn checked_header(bytes: &[u8]) -> Result<Header, AoutFault>
     ensures header { IfOk result (λ header. header ≡ header_of bytes.now) }
     ensures good { IfOk result (λ header. has_good_segments header ≡ true) }

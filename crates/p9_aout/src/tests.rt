@@ -21,7 +21,13 @@ fn reads_whole_and_writes_again(rt: HostRuntime) -> Result<(), Fail> {
     let bytes = write_aout(rt.alloc(), &image).ok().ok_or("no memory")?;
     let (header, rest) = bytes.list.split_at_checked(28).ok_or("short")?;
     assert_eq!(rt; header, &EXITS[..28]);
-    assert_eq!(rt; rest, [0, 0, 0, 0, 0x27, 0xbd, 0xff, 0xf0, 0x24, 1, 0, 8, 0, 0, 0, 12].as_slice());
+    assert_eq!(rt;
+        rest,
+        [
+            0, 0, 0, 0, 0x27, 0xbd, 0xff, 0xf0, 0x24, 1, 0, 8, 0, 0, 0, 12
+        ]
+        .as_slice()
+    );
     Ok(())
 }
 
@@ -45,20 +51,34 @@ fn refuses_by_the_first_fault(rt: HostRuntime) -> Result<(), Fail> {
     let mut bytes = EXITS;
     bytes[2] = 0x01;
     bytes[3] = 0xeb;
-    assert_eq!(rt; read_aout(rt.alloc(), &bytes).err(), Some(AoutFault::BadMagic(491)));
+    assert_eq!(rt;
+        read_aout(rt.alloc(), &bytes).err(),
+        Some(AoutFault::BadMagic(491))
+    );
     Ok(())
 }
 
 #[test]
 fn writes_a_symbol(rt: HostRuntime) -> Result<(), Fail> {
     let mut image = read_aout(rt.alloc(), &EXITS)?;
-    let name = Bytes { list: b"main".to_vec(rt.alloc())? };
+    let name = Bytes {
+        list: b"main".to_vec(rt.alloc())?,
+    };
     let mut syms = Vec::new(rt.alloc());
-    syms.push(AoutSym { value: 0x1020, letter: b'T', name }).ok().ok_or("no memory")?;
+    syms.push(AoutSym {
+        value: 0x1020,
+        letter: b'T',
+        name,
+    })
+    .ok()
+    .ok_or("no memory")?;
     image.syms = syms;
     let bytes = write_aout(rt.alloc(), &image).ok().ok_or("no memory")?;
     let (header, rest) = bytes.list.split_at_checked(44).ok_or("short")?;
     assert_eq!(rt; &header[16..20], [0, 0, 0, 10].as_slice());
-    assert_eq!(rt; rest, [0, 0, 0x10, 0x20, 0xd4, b'm', b'a', b'i', b'n', 0].as_slice());
+    assert_eq!(rt;
+        rest,
+        [0, 0, 0x10, 0x20, 0xd4, b'm', b'a', b'i', b'n', 0].as_slice()
+    );
     Ok(())
 }
