@@ -108,16 +108,19 @@ fn image_at(alloc: Global, bytes: &[u8], header: &Header) -> Result<Image, AoutF
 
 /// The image of a file's bytes, without its symbols. Of several faults the first counts, in the order
 /// of a file too short for a header, the magic number, the sizes with the entry, and a file too short
-/// for its sizes. No memory is asked for where the bytes are refused.
+/// for its sizes. Want of memory hides no fault.
 #[tactic(auto, using(crate::proofs::Reading::within_bounds))]
 pub fn read_aout(alloc: Global, bytes: &[u8]) -> Result<Image, AoutFault>
     ensures image { IfOk result (λ image. image_of bytes.now ≡ Ok (parts_of image)) }
     ensures bounds { IfOk result (λ image. IsWithinBounds (parts_of image)) }
     ensures no_symbols { IfOk result (λ image. image.syms.items ≡ []) }
 
-    ensures magic { (m : ℕ) → IsErrOf result (AoutFault.BadMagic m) ↔ (image_of bytes.now ≡ Err (AoutFault.BadMagic m)) }
-    ensures short { (need : ℕ) → IsErrOf result (AoutFault.ShortFile need) ↔ (image_of bytes.now ≡ Err (AoutFault.ShortFile need)) }
-    ensures segment { IsErrOf result AoutFault.BadSegment ↔ (image_of bytes.now ≡ Err AoutFault.BadSegment) }
+    ensures magic { (m : ℕ) →
+        IsErrOf result (AoutFault.BadMagic m) ↔ (image_of bytes.now ≡ Err (AoutFault.BadMagic m)) }
+    ensures short { (need : ℕ) →
+        IsErrOf result (AoutFault.ShortFile need) ↔ (image_of bytes.now ≡ Err (AoutFault.ShortFile need)) }
+    ensures segment {
+        IsErrOf result AoutFault.BadSegment ↔ (image_of bytes.now ≡ Err AoutFault.BadSegment) }
 {
     let header = checked_header(bytes)?;
     image_at(alloc, bytes, &header)
