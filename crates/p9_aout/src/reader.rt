@@ -119,8 +119,7 @@ pub fn read_aout(alloc: Global, bytes: &[u8]) -> Result<Image, AoutFault>
         IsErrOf result (AoutFault.BadMagic m) ↔ (image_of bytes.now ≡ Err (AoutFault.BadMagic m)) }
     ensures short { (need : ℕ) →
         IsErrOf result (AoutFault.ShortFile need) ↔ (image_of bytes.now ≡ Err (AoutFault.ShortFile need)) }
-    ensures segment {
-        IsErrOf result AoutFault.BadSegment ↔ (image_of bytes.now ≡ Err AoutFault.BadSegment) }
+    ensures segment { IsErrOf result AoutFault.BadSegment ↔ (image_of bytes.now ≡ Err AoutFault.BadSegment) }
 {
     let header = checked_header(bytes)?;
     image_at(alloc, bytes, &header)

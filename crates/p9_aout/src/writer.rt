@@ -101,7 +101,7 @@ pub fn write_aout(alloc: Global, image: &Image) -> Result<Bytes, NoMemory>
     ensures read_back { IfOk result (λ bytes. image_of bytes ≡ Ok (parts_of image.now)) }
     ensures symbols_read_back { All HasPlainLetter image.now.syms.items →
         IfOk result (λ bytes.
-            symbols_at (vec_len image.now.syms) (symbol_part image.now bytes) ≡ image.now.syms.items) }
+        symbols_at (vec_len image.now.syms) (symbol_part image.now bytes) ≡ image.now.syms.items) }
 {
     spelled_bytes(alloc, image)
 }
