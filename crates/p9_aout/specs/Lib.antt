@@ -1,0 +1,4 @@
+pub mod Header
+pub mod Image
+pub mod Symbols
+pub mod Spelled

@@ -1,0 +1,12 @@
+//! Executables of the a.out format: an image of text and data as bytes, and bytes as an image.
+#![tactic(auto)]
+
+mod format;
+mod reader;
+#[cfg(test)]
+mod tests;
+mod writer;
+
+pub use format::{AoutFault, AoutSym, Image};
+pub use reader::read_aout;
+pub use writer::write_aout;
