@@ -1,0 +1,13 @@
+//! The tokens of a source file, in C and in the assembler's language.
+#![tactic(auto)]
+
+mod blank;
+mod broken;
+mod classes;
+mod mark;
+mod number;
+mod piece;
+mod quoted;
+mod token;
+
+pub use token::{Dialect, LexFault, Token, TokenKind, Tokens};
