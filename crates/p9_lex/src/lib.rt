@@ -8,6 +8,8 @@ mod mark;
 mod number;
 mod piece;
 mod quoted;
+mod scan;
 mod token;
 
+pub use scan::lex;
 pub use token::{Dialect, LexFault, Token, TokenKind, Tokens};

@@ -1,6 +1,7 @@
 // Marks.
-ghost use Rattle.std.specs.Prelude.{◌≡◌, [], ◌∷◌};
+ghost use Rattle.std.specs.Prelude.{◌≡◌, ◌+◌, [], ◌∷◌, length};
 ghost use Rattle.p9_lex.specs.Mark.{mark_number, longest_mark};
+ghost use Rattle.p9_lex.specs.Broken.{IsInside};
 
 use crate::broken::{Break, bad_byte};
 use crate::token::Dialect;
@@ -109,7 +110,8 @@ fn mark_of_three(dialect: Dialect, first: u8, second: u8, third: u8) -> Option<u
 /// The longest mark that `first` and `rest` begin with.
 #[tactic(auto, unfolding(crate::specs::Mark::longest_mark))]
 pub fn longest_mark(dialect: Dialect, first: u8, rest: &[u8]) -> Result<Marked, Break>
-    ensures { result ≡ longest_mark dialect first rest.now }
+    ensures value { result ≡ longest_mark dialect first rest.now }
+    ensures inside { IsInside 1 (1 + length rest.now) (λ i. i.length) result }
 {
     if let [second, third, ..] = rest {
         if let Some(number) = mark_of_three(dialect, first, *second, *third) {

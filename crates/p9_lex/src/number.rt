@@ -2,6 +2,7 @@
 ghost use Rattle.std.specs.Prelude.{◌≡◌, ◌+◌, ◌*◌, ◌^◌, ◌<◌, ◌≤◌, IsTrue, length, SomeIff};
 ghost use Rattle.p9_lex.specs.Classes.{digit_value, is_digit};
 ghost use Rattle.p9_lex.specs.Number.{is_unsigned_mark, is_long_mark, number_end, after_unsigned, after_long, after_digits, digits, hexadecimal, after_zero, number};
+ghost use Rattle.p9_lex.specs.Broken.{IsInside};
 
 use crate::broken::{Break, bad_byte, wide_number};
 use crate::classes::{digit_value, is_digit_of, is_name_byte};
@@ -34,7 +35,8 @@ fn number_end(
     long: bool,
     rest: &[u8],
 ) -> Result<Numeral, Break>
-    ensures { result ≡ number_end value at unsigned long rest.now }
+    ensures value { result ≡ number_end value at unsigned long rest.now }
+    ensures inside { IsInside at (at + length rest.now) (λ i. i.length) result }
 {
     if let [b, ..] = rest {
         if is_name_byte(*b) || *b == b'.' {
@@ -50,8 +52,9 @@ fn number_end(
 }
 
 fn after_unsigned(value: u32, at: usize, rest: &[u8]) -> Result<Numeral, Break>
-    requires { at + length rest.now < 2 ^ 63 }
-    ensures { result ≡ after_unsigned value at rest.now }
+    requires { at + length rest.now < 2 ^ 64 }
+    ensures value { result ≡ after_unsigned value at rest.now }
+    ensures inside { IsInside at (at + length rest.now) (λ i. i.length) result }
 {
     if let [b, after @ ..] = rest {
         if is_long_mark(*b) {
@@ -62,8 +65,9 @@ fn after_unsigned(value: u32, at: usize, rest: &[u8]) -> Result<Numeral, Break>
 }
 
 fn after_long(value: u32, at: usize, rest: &[u8]) -> Result<Numeral, Break>
-    requires { at + length rest.now < 2 ^ 63 }
-    ensures { result ≡ after_long value at rest.now }
+    requires { at + length rest.now < 2 ^ 64 }
+    ensures value { result ≡ after_long value at rest.now }
+    ensures inside { IsInside at (at + length rest.now) (λ i. i.length) result }
 {
     if let [b, after @ ..] = rest {
         if is_unsigned_mark(*b) {
@@ -74,8 +78,9 @@ fn after_long(value: u32, at: usize, rest: &[u8]) -> Result<Numeral, Break>
 }
 
 fn after_digits(value: u32, at: usize, rest: &[u8]) -> Result<Numeral, Break>
-    requires { at + length rest.now < 2 ^ 63 }
-    ensures { result ≡ after_digits value at rest.now }
+    requires { at + length rest.now < 2 ^ 64 }
+    ensures value { result ≡ after_digits value at rest.now }
+    ensures inside { IsInside at (at + length rest.now) (λ i. i.length) result }
 {
     if let [b, after @ ..] = rest {
         if is_unsigned_mark(*b) {
@@ -96,8 +101,9 @@ fn with_digit(base: u32, value: u32, digit: u32) -> Option<u32>
 }
 
 fn digits(base: u32, from_value: u32, from: usize, rest: &[u8]) -> Result<Numeral, Break>
-    requires { from + length rest.now < 2 ^ 63 }
-    ensures { result ≡ digits base from_value from rest.now }
+    requires { from + length rest.now < 2 ^ 64 }
+    ensures value { result ≡ digits base from_value from rest.now }
+    ensures inside { IsInside from (from + length rest.now) (λ i. i.length) result }
 {
     let mut value = from_value;
     let mut length = from;
@@ -117,8 +123,9 @@ fn digits(base: u32, from_value: u32, from: usize, rest: &[u8]) -> Result<Numera
 }
 
 fn hexadecimal(rest: &[u8]) -> Result<Numeral, Break>
-    requires { 2 + length rest.now < 2 ^ 63 }
-    ensures { result ≡ hexadecimal rest.now }
+    requires { 2 + length rest.now < 2 ^ 64 }
+    ensures value { result ≡ hexadecimal rest.now }
+    ensures inside { IsInside 2 (2 + length rest.now) (λ i. i.length) result }
 {
     match rest {
         [b, ..] if is_digit_of(16, *b) => digits(16, 0, 2, rest),
@@ -127,8 +134,9 @@ fn hexadecimal(rest: &[u8]) -> Result<Numeral, Break>
 }
 
 fn after_zero(rest: &[u8]) -> Result<Numeral, Break>
-    requires { 2 + length rest.now < 2 ^ 63 }
-    ensures { result ≡ after_zero rest.now }
+    requires { 2 + length rest.now < 2 ^ 64 }
+    ensures value { result ≡ after_zero rest.now }
+    ensures inside { IsInside 1 (1 + length rest.now) (λ i. i.length) result }
 {
     if let [b, after @ ..] = rest {
         if *b == b'x' || *b == b'X' {
@@ -141,8 +149,9 @@ fn after_zero(rest: &[u8]) -> Result<Numeral, Break>
 /// The number that begins with a digit.
 pub fn number(digit: u8, rest: &[u8]) -> Result<Numeral, Break>
     requires digit { IsTrue (is_digit digit) }
-    requires small { 2 + length rest.now < 2 ^ 63 }
-    ensures { result ≡ number digit rest.now }
+    requires small { 2 + length rest.now < 2 ^ 64 }
+    ensures value { result ≡ number digit rest.now }
+    ensures inside { IsInside 1 (1 + length rest.now) (λ i. i.length) result }
 {
     if digit == b'0' {
         after_zero(rest)

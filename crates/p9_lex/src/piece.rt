@@ -2,7 +2,7 @@
 ghost use Rattle.std.specs.Prelude.{◌≡◌, ◌+◌, ◌^◌, ◌<◌, ◌≤◌, ◌∷◌, length, IfOk, IfErr, IsTrue};
 ghost use Rattle.p9_lex.specs.Classes.{is_digit};
 ghost use Rattle.p9_lex.specs.Piece.{name_bytes, word, continued_line, number_piece, character_piece, text_piece, mark_piece, slash, piece};
-ghost use Rattle.p9_lex.specs.Broken.{IsBreak};
+ghost use Rattle.p9_lex.specs.Broken.{IsBreak, IsInside, IsRead};
 
 use crate::blank::{block_comment, line_comment};
 use crate::broken::{Break, PieceFault, bad_byte};
@@ -66,6 +66,7 @@ fn name_bytes(rest: &[u8]) -> usize
 fn word(alloc: Global, first: u8, rest: &[u8]) -> Result<Found, PieceFault>
     ensures ok { IfOk result (λ f. word first rest.now ≡ Ok f) }
     ensures err { IfErr result (λ e. IsBreak e (word first rest.now)) }
+    ensures inside { IsRead 1 (1 + length rest.now) (λ f. f.length) result }
 {
     let more = name_bytes(rest);
     if more >= 255 {
@@ -78,7 +79,8 @@ fn word(alloc: Global, first: u8, rest: &[u8]) -> Result<Found, PieceFault>
 }
 
 fn continued_line(rest: &[u8]) -> Result<Found, Break>
-    ensures { result ≡ continued_line rest.now }
+    ensures value { result ≡ continued_line rest.now }
+    ensures inside { IsInside 1 (1 + length rest.now) (λ f. f.length) result }
 {
     match rest {
         [b, ..] if is_newline(*b) => Ok(blank(2)),
@@ -87,7 +89,8 @@ fn continued_line(rest: &[u8]) -> Result<Found, Break>
 }
 
 fn mark_piece(dialect: Dialect, first: u8, rest: &[u8]) -> Result<Found, Break>
-    ensures { result ≡ mark_piece dialect first rest.now }
+    ensures value { result ≡ mark_piece dialect first rest.now }
+    ensures inside { IsInside 1 (1 + length rest.now) (λ f. f.length) result }
 {
     let mark = longest_mark(dialect, first, rest)?;
     Ok(token(TokenKind::Mark(mark.number), mark.length))
@@ -95,8 +98,9 @@ fn mark_piece(dialect: Dialect, first: u8, rest: &[u8]) -> Result<Found, Break>
 
 fn number_piece(first: u8, rest: &[u8]) -> Result<Found, Break>
     requires digit { IsTrue (is_digit first) }
-    requires small { 2 + length rest.now < 2 ^ 63 }
-    ensures { result ≡ number_piece first rest.now }
+    requires small { 2 + length rest.now < 2 ^ 64 }
+    ensures value { result ≡ number_piece first rest.now }
+    ensures inside { IsInside 1 (1 + length rest.now) (λ f. f.length) result }
 {
     let numeral = number(first, rest)?;
     let kind = TokenKind::Number {
@@ -108,25 +112,28 @@ fn number_piece(first: u8, rest: &[u8]) -> Result<Found, Break>
 }
 
 fn character_piece(rest: &[u8]) -> Result<Found, Break>
-    requires { 1 + length rest.now < 2 ^ 63 }
-    ensures { result ≡ character_piece rest.now }
+    requires { 1 + length rest.now < 2 ^ 64 }
+    ensures value { result ≡ character_piece rest.now }
+    ensures inside { IsInside 1 (1 + length rest.now) (λ f. f.length) result }
 {
     let character = read_character(rest)?;
     Ok(token(TokenKind::Char(character.value), character.length))
 }
 
 fn text_piece(alloc: Global, rest: &[u8]) -> Result<Found, PieceFault>
-    requires { 1 + length rest.now < 2 ^ 63 }
+    requires { 1 + length rest.now < 2 ^ 64 }
     ensures ok { IfOk result (λ f. text_piece rest.now ≡ Ok f) }
     ensures err { IfErr result (λ e. IsBreak e (text_piece rest.now)) }
+    ensures inside { IsRead 1 (1 + length rest.now) (λ f. f.length) result }
 {
     let text = read_text(alloc, rest)?;
     Ok(token(TokenKind::Text(text.bytes), text.length))
 }
 
 fn slash(dialect: Dialect, rest: &[u8]) -> Result<Found, Break>
-    requires { 2 + length rest.now < 2 ^ 63 }
-    ensures { result ≡ slash dialect rest.now }
+    requires { 2 + length rest.now < 2 ^ 64 }
+    ensures value { result ≡ slash dialect rest.now }
+    ensures inside { IsInside 1 (1 + length rest.now) (λ f. f.length) result }
 {
     match rest {
         [b'/', after @ ..] => Ok(blank(line_comment(2, after)?)),
@@ -143,9 +150,10 @@ pub fn read_piece(
     first: u8,
     rest: &[u8],
 ) -> Result<Found, PieceFault>
-    requires { 2 + length rest.now < 2 ^ 63 }
+    requires { 2 + length rest.now < 2 ^ 64 }
     ensures ok { IfOk result (λ f. piece dialect first rest.now ≡ Ok f) }
     ensures err { IfErr result (λ e. IsBreak e (piece dialect first rest.now)) }
+    ensures inside { IsRead 1 (1 + length rest.now) (λ f. f.length) result }
 {
     if is_blank(first) {
         Ok(blank(1))

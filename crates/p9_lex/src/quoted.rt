@@ -1,7 +1,7 @@
 // Characters and texts.
-ghost use Rattle.std.specs.Prelude.{◌≡◌, ◌+◌, ◌^◌, ◌<◌, ◌≤◌, ◌∷◌, length, IfOk, IfErr};
+ghost use Rattle.std.specs.Prelude.{◌≡◌, ◌+◌, ◌^◌, ◌<◌, ◌≤◌, [], ◌∷◌, ◌++◌, length, IfOk, IfErr, OnOk};
 ghost use Rattle.p9_lex.specs.Quoted.{simple_escape, octal_third, octal_second, hex_second, hex_escape, coded_escape, escape, quoted, character_end, character, text};
-ghost use Rattle.p9_lex.specs.Broken.{IsBreak};
+ghost use Rattle.p9_lex.specs.Broken.{IsBreak, IsInside, IsRead};
 
 use crate::broken::{Break, PieceFault, bad_byte, open_text};
 use crate::classes::{digit_value, is_digit_of, is_newline};
@@ -48,7 +48,8 @@ fn simple_escape(b: u8) -> Option<u8>
 }
 
 fn octal_third(k: usize, value: u8, rest: &[u8]) -> Result<Item, Break>
-    ensures { result ≡ octal_third k value rest.now }
+    ensures value { result ≡ octal_third k value rest.now }
+    ensures inside { IfErr result (λ e. e.by ≤ k + length rest.now) }
 {
     if let [b, ..] = rest {
         if is_digit_of(8, *b) {
@@ -67,8 +68,9 @@ fn octal_third(k: usize, value: u8, rest: &[u8]) -> Result<Item, Break>
 
 fn octal_second(k: usize, value: u8, rest: &[u8]) -> Result<Item, Break>
     requires digit { value < 8 }
-    requires small { k + length rest.now < 2 ^ 63 }
-    ensures { result ≡ octal_second k value rest.now }
+    requires small { k + length rest.now < 2 ^ 64 }
+    ensures value { result ≡ octal_second k value rest.now }
+    ensures inside { IfErr result (λ e. e.by ≤ k + length rest.now) }
 {
     if let [b, after @ ..] = rest {
         if is_digit_of(8, *b) {
@@ -94,7 +96,8 @@ fn hex_second(value: u8, rest: &[u8]) -> Result<Item, Break>
 }
 
 fn hex_escape(k: usize, rest: &[u8]) -> Result<Item, Break>
-    ensures { result ≡ hex_escape k rest.now }
+    ensures value { result ≡ hex_escape k rest.now }
+    ensures inside { IfErr result (λ e. e.by ≤ k + length rest.now) }
 {
     match rest {
         [] => Err(open_text(k)),
@@ -111,8 +114,9 @@ fn hex_escape(k: usize, rest: &[u8]) -> Result<Item, Break>
 }
 
 fn coded_escape(k: usize, b: u8, rest: &[u8]) -> Result<Item, Break>
-    requires { k + 1 + length rest.now < 2 ^ 63 }
-    ensures { result ≡ coded_escape k b rest.now }
+    requires { k + 1 + length rest.now < 2 ^ 64 }
+    ensures value { result ≡ coded_escape k b rest.now }
+    ensures inside { IfErr result (λ e. e.by ≤ k + 1 + length rest.now) }
 {
     if is_digit_of(8, b) {
         octal_second(k + 1, digit_value(b) as u8, rest)
@@ -124,8 +128,9 @@ fn coded_escape(k: usize, b: u8, rest: &[u8]) -> Result<Item, Break>
 }
 
 fn escape(k: usize, rest: &[u8]) -> Result<Item, Break>
-    requires { k + length rest.now < 2 ^ 63 }
-    ensures { result ≡ escape k rest.now }
+    requires { k + length rest.now < 2 ^ 64 }
+    ensures value { result ≡ escape k rest.now }
+    ensures inside { IfErr result (λ e. e.by ≤ k + length rest.now) }
 {
     match rest {
         [] => Err(open_text(k)),
@@ -142,8 +147,9 @@ fn escape(k: usize, rest: &[u8]) -> Result<Item, Break>
 }
 
 fn quoted(k: usize, b: u8, rest: &[u8]) -> Result<Item, Break>
-    requires { k + 1 + length rest.now < 2 ^ 63 }
-    ensures { result ≡ quoted k b rest.now }
+    requires { k + 1 + length rest.now < 2 ^ 64 }
+    ensures value { result ≡ quoted k b rest.now }
+    ensures inside { IfErr result (λ e. e.by ≤ k + 1 + length rest.now) }
 {
     if is_newline(b) {
         Err(open_text(k))
@@ -160,8 +166,9 @@ fn quoted(k: usize, b: u8, rest: &[u8]) -> Result<Item, Break>
 }
 
 fn character_end(k: usize, value: u8, rest: &[u8]) -> Result<Character, Break>
-    requires { k + length rest.now < 2 ^ 63 }
-    ensures { result ≡ character_end k value rest.now }
+    requires { k + length rest.now < 2 ^ 64 }
+    ensures value { result ≡ character_end k value rest.now }
+    ensures inside { IsInside k (k + length rest.now) (λ i. i.length) result }
 {
     match rest {
         [] => Err(open_text(k)),
@@ -183,8 +190,9 @@ fn character_end(k: usize, value: u8, rest: &[u8]) -> Result<Character, Break>
 #[tactic(auto, unfolding(crate::specs::Quoted::character), using(crate::proofs::QuotedLemmas::quoted_some))]
 /// The character whose first `'` stands before `rest`.
 pub fn read_character(rest: &[u8]) -> Result<Character, Break>
-    requires { 1 + length rest.now < 2 ^ 63 }
-    ensures { result ≡ character rest.now }
+    requires { 1 + length rest.now < 2 ^ 64 }
+    ensures value { result ≡ character rest.now }
+    ensures inside { IsInside 1 (1 + length rest.now) (λ i. i.length) result }
 {
     match rest {
         [] => Err(open_text(1)),
@@ -198,11 +206,20 @@ pub fn read_character(rest: &[u8]) -> Result<Character, Break>
     }
 }
 
+fn push_byte(bytes: &mut Vec<u8>, b: u8) -> Result<(), AllocError>
+    ensures { OnOk result (bytes.new.items ≡ bytes.old.items ++ b ∷ []) }
+{
+    bytes.push(b)?;
+    Ok(())
+}
+
 /// The text whose first `"` stands before `rest`.
+#[tactic(auto, using(crate::proofs::QuotedLemmas::quoted_some, crate::proofs::TextLemmas::with_bytes_none))]
 pub fn read_text(alloc: Global, rest: &[u8]) -> Result<Text, PieceFault>
-    requires { 1 + length rest.now < 2 ^ 63 }
+    requires { 1 + length rest.now < 2 ^ 64 }
     ensures ok { IfOk result (λ t. text 0 1 rest.now ≡ Ok t) }
     ensures err { IfErr result (λ e. IsBreak e (text 0 1 rest.now)) }
+    ensures inside { IsRead 1 (1 + length rest.now) (λ t. t.length) result }
 {
     let mut bytes = Vec::new(alloc);
     let mut length = 1;
@@ -215,7 +232,7 @@ pub fn read_text(alloc: Global, rest: &[u8]) -> Result<Text, PieceFault>
             });
         }
         let item = quoted(length, *b, after)?;
-        bytes.push(item.value).map_err(AllocError::from)?;
+        push_byte(&mut bytes, item.value)?;
         length += item.length;
         left = &left[item.length..];
     }
