@@ -13,10 +13,12 @@ use Rattle.p9_lex.specs.declared.token.TokenKind.TheVariants.{End}
 use Rattle.p9_lex.specs.declared.broken.PieceFault.{PieceFault}
 use Rattle.p9_lex.specs.declared.broken.PieceFault.TheVariants as piece_fault
 use Rattle.p9_lex.specs.declared.scan.ScanFault.{ScanFault}
+use Rattle.p9_lex.specs.declared.token.LexFault.{LexFault}
+use Rattle.p9_lex.specs.declared.broken.Reason.TheVariants as reason
 use Rattle.p9_lex.specs.Broken.{IsBreak}
 use Rattle.p9_lex.specs.Classes.{is_newline}
 use Rattle.p9_lex.specs.Piece.{piece}
-use Rattle.p9_lex.specs.Tokens.{kind_of, first_after, line_after, tokens_at, in_front, after_piece, scan, max_bytes, too_long, first_stop, limited, IsStop, IsStopped}
+use Rattle.p9_lex.specs.Tokens.{kind_of, first_after, line_after, tokens_at, in_front, after_piece, scan, max_bytes, too_long, first_stop, limited, IsStop, IsStopped, lexed, answer_of, fault_by, fault_of, IsRefusal}
 use Rattle.p9_lex.proofs.Slices.{slice_rest, slice_front}
 
 -- lines and places, past a byte
@@ -156,3 +158,19 @@ scan_end d bytes whole sofar more [] place line first joined reads counted small
     let fits : leb (length bytes) max_bytes ≡ true = le-leb (length bytes) max_bytes (omega (arith, counted, small)) in
     ap (limited bytes) (sym reads) ∙ ap (λ c. cond c (Ok (sofar ++ tokens_at (Some End) place place line first joined)) (Err too_long)) fits ∙ ap (λ l. Ok l) (sym pushed)
 scan_end d bytes whole sofar more (b ∷ s) place line first joined reads counted small none pushed = absurd (omega (arith, none))
+
+-- The answer
+
+pub tokens_of_file : (d : Dialect) (bytes : List ℕ) (ts : List Token) → limited bytes (scan d 0 0 1 true false bytes) ≡ Ok ts → lexed d bytes ≡ Ok ts
+unfolding lexed
+tokens_of_file d bytes ts h = ap (answer_of bytes) h
+
+refusal_by : (d : Dialect) (bytes : List ℕ) (r : reason.the_data) (start by : ℕ) → lexed d bytes ≡ Err (fault_by r bytes start by) → IsRefusal d bytes (fault_by r bytes start by)
+refusal_by d bytes reason.BadByte start by h = h
+refusal_by d bytes reason.OpenComment start by h = h
+refusal_by d bytes reason.OpenText start by h = h
+refusal_by d bytes reason.WideNumber start by h = h
+
+pub refusal_of_file : (d : Dialect) (bytes : List ℕ) (stop : Stop) (e : LexFault) → limited bytes (scan d 0 0 1 true false bytes) ≡ Err stop → e ≡ fault_of bytes stop → IsRefusal d bytes e
+unfolding lexed
+refusal_of_file d bytes stop e h is = subst (IsRefusal d bytes) (sym is) (refusal_by d bytes stop.reason stop.start stop.by (ap (answer_of bytes) h))

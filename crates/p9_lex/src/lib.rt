@@ -9,6 +9,8 @@ mod number;
 mod piece;
 mod quoted;
 mod scan;
+#[cfg(test)]
+mod tests;
 mod token;
 
 pub use scan::lex;

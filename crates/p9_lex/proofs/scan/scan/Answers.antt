@@ -36,7 +36,7 @@ loop-left-preserved c =
       answer = states ∙ joined ∙ scan_step c.args.dialect l.list.items c.put.new.list.items l.left.now l.place l.line (l.line + c.newlines-line.result) l.first l.joined f some_left c.in-Ok.ensures.ok inside.0 within pushed lines ∙ l.invariant.answer;
       count = omega (arith, ap length (slice_rest f.length l.left.now), length-drop f.length l.left.now, within, l.invariant.count);
       small = small;
-      lines = omega (arith, c.newlines-line.ensures.small, length-take f.length l.left.now, l.invariant.lines)
+      lines = omega (arith, c.newlines-line.ensures.small, length-take f.length l.left.now, l.invariant.lines);
     }
 
 pub returns-clause-ok : goal.returns-clause-ok
