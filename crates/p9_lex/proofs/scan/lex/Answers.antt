@@ -5,4 +5,4 @@ pub returns-in-Ok-clause-tokens : goal.returns-in-Ok-clause-tokens
 returns-in-Ok-clause-tokens c = tokens_of_file c.args.dialect c.args.bytes.now c.in-Ok.list.items c.in-Ok.ensures.ok
 
 pub returns-in-Err-Stop-clause-refused : goal.returns-in-Err-Stop-clause-refused
-returns-in-Err-Stop-clause-refused c = refusal_of_file c.args.dialect c.args.bytes.now c.in-Err-Stop.stop c.fault_of.result (rw c.in-Err-Stop.field-0-is at c.in-Err-Stop.ensures.err) c.fault_of.ensures
+returns-in-Err-Stop-clause-refused c = refusal_of_file c.args.dialect c.args.bytes.now c.in-Err-Stop.stop c.fault_of.result (rw c.in-Err-Stop.field-0-is at c.in-Err-Stop.ensures.err) (rw c.in-Err-Stop.field-0-is at c.fault_of.ensures)
