@@ -1,13 +1,13 @@
 -- No play does with fewer registers than Sethi and Ullman's number.
-use Rattle.std.proofs.Common.{◌≡◌, ℕ, zero, suc, ◌+◌, ◌-◌, ◌<◌, ◌≤◌, ◌⊎◌, ◌≢◌, Bool, true, false, cond, List, [], ◌∷◌, ◌++◌, Option, Some, None, All, max, refl, sym, ◌∙◌, ap, subst, inl, inr, arith}
-use Rattle.std.specs.Prelude.{slice_get, ◌==◌}
-use Rattle.std.proofs.lemmas.Bool.Decides.{eqb_tells, nat_tests}
+use Rattle.std.proofs.Common.{◌≡◌, ℕ, zero, suc, ◌+◌, ◌-◌, ◌<◌, ◌≤◌, ◌⊎◌, ◌≢◌, List, [], ◌∷◌, Some, None, All, refl, sym, ◌∙◌, ap, subst, inl, inr, arith}
+use Rattle.std.specs.Prelude.{slice_get}
+use Rattle.std.proofs.lemmas.Bool.Decides.{eqb_tells}
 use Rattle.std.proofs.lemmas.List.Elements.{All-head, All-tail}
 use Rattle.p9_su.specs.declared.shapes.Shape.{Shape, Leaf, Pair'}
 use Rattle.p9_su.specs.declared.moves.Move.{Move}
 use Rattle.p9_su.specs.declared.moves.Move.TheVariants.{Load, Combine}
-use Rattle.p9_su.specs.Shapes.{leaves_of, number_of, joined_number}
-use Rattle.p9_su.specs.Game.{Side, Left, Right, Place, leaf_places, Registers, all_free, with_content, AreSons, Leads, UsesBelow, IsPlay, CanBePlayed}
+use Rattle.p9_su.specs.Shapes.{number_of, joined_number}
+use Rattle.p9_su.specs.Game.{Left, Right, Place, leaf_places, Registers, all_free, with_content, AreSons, Leads, UsesBelow, IsPlay, CanBePlayed}
 use Rattle.p9_su.proofs.Places.{subtree_at, subtree_at_son, leaf_stands, held, held_most, held_sons, held_some, Holds, content_cases}
 
 -- Steps

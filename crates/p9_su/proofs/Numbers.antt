@@ -1,5 +1,5 @@
 -- Sethi and Ullman's number is the least number of registers, up to the largest word.
-use Rattle.std.proofs.Common.{◌≡◌, ℕ, ◌<◌, ◌≤◌, min, sym, subst, arith}
+use Rattle.std.proofs.Common.{◌≡◌, ℕ, ◌<◌, ◌≤◌, min, subst, arith}
 use Rattle.p9_su.specs.declared.shapes.Shape.{Shape}
 use Rattle.p9_su.specs.Shapes.{number_of}
 use Rattle.p9_su.specs.Game.{CanBePlayed}

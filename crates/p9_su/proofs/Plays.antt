@@ -1,13 +1,13 @@
 -- The order of Sethi and Ullman is a play with as many registers as the shape's number.
-use Rattle.std.proofs.Common.{◌≡◌, ℕ, zero, suc, ◌+◌, ◌-◌, ◌<◌, ◌≤◌, ◌⊎◌, ◌≢◌, Bool, true, false, cond, List, [], ◌∷◌, ◌++◌, length, Option, Some, None, All, max, refl, sym, ◌∙◌, ap, subst, inl, inr, arith, append_assoc, length-append, append-nil}
-use Rattle.std.specs.Prelude.{slice_get, ◌==◌, nat_le}
+use Rattle.std.proofs.Common.{◌≡◌, ℕ, ◌+◌, ◌<◌, ◌≤◌, ◌⊎◌, ◌≢◌, List, [], ◌∷◌, ◌++◌, length, Some, None, All, refl, sym, ◌∙◌, ap, subst, inl, inr, arith, append_assoc, length-append, append-nil}
+use Rattle.std.specs.Prelude.{slice_get}
 use Rattle.std.proofs.lemmas.Bool.Decides.{eqb_tells, leb_tells}
 use Rattle.std.proofs.lemmas.List.Elements.{All-nil, All-cons, All-append}
 use Rattle.p9_su.specs.declared.shapes.Shape.{Shape, Leaf, Pair'}
 use Rattle.p9_su.specs.declared.moves.Move.{Move}
 use Rattle.p9_su.specs.declared.moves.Move.TheVariants.{Load, Combine}
 use Rattle.p9_su.specs.Shapes.{leaves_of, number_of, joined_number}
-use Rattle.p9_su.specs.Game.{Side, Left, Right, Place, leaf_places, Registers, all_free, with_content, AreSons, Leads, UsesBelow, loads_of, IsPlay, CanBePlayed}
+use Rattle.p9_su.specs.Game.{Left, Right, Place, leaf_places, Registers, all_free, with_content, AreSons, Leads, UsesBelow, loads_of, IsPlay, CanBePlayed}
 use Rattle.p9_su.specs.Order.{moves_of}
 use Rattle.p9_su.proofs.Places.{content_cases, content_same, content_other}
 use Rattle.p9_su.proofs.Bound.{number_positive}

@@ -1,4 +1,4 @@
-use Rattle.std.proofs.Common.{rules, arith, [], ◌∷◌, get_or, Vec, Global, ◌≡◌, ◌+◌, ◌*◌, ◌-◌, ◌≤◌, ◌++◌, List, length, take, length-append, ap, sym, ◌∙◌}
+use Rattle.std.proofs.Common.{rules, arith, [], ◌∷◌, get_or, Vec, Global, ◌≡◌, ◌+◌, ◌-◌, ◌≤◌, ◌++◌, length, take, length-append, ap, sym, ◌∙◌}
 use Rattle.p9_su.specs.declared.plans.Label.{Label}
 use Rattle.p9_su.specs.declared.moves.Move.{Move}
 use Rattle.p9_su.specs.declared.moves.Move.TheVariants.{Combine}

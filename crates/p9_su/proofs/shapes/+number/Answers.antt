@@ -1,5 +1,4 @@
-use Rattle.std.proofs.Common.{rules, arith, ◌≡◌, min}
-use Rattle.std.proofs.lemmas.Grind.{common_steps}
+use Rattle.std.proofs.Common.{rules}
 use Rattle.p9_su.proofs.Numbers.{enough_registers, least_registers}
 use Rattle.p9_su.proofs.shapes.+number.Goals as goal
 
