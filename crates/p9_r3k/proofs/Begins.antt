@@ -1,12 +1,14 @@
 -- A run begins with its parts in their places, and runs the words of its image.
-use Rattle.std.proofs.Common.{ℕ, ◌+◌, ◌-◌, ◌^◌, ◌≡◌, ◌≤◌, ◌<◌, ◌++◌, Bool, true, nat_lt, refl, sym, ap, ◌∙◌, arith, List, length, take, slice_index, length-append}
+use Rattle.std.proofs.Common.{ℕ, ◌+◌, ◌-◌, ◌^◌, ◌≡◌, ◌≤◌, ◌<◌, ◌++◌, Bool, true, nat_lt, refl, sym, ap, ◌∙◌, arith, List, length, take, slice_index, replicate, length-append}
 use Rattle.std.proofs.Math.ListN.{get_or-append}
 use Rattle.std.proofs.lemmas.List.{get_or-take, length-replicate}
+use Rattle.std.proofs.lemmas.List.Elements.{All-append, All-replicate, All-set}
+use Rattle.p9_base.specs.Words.{IsWord}
 use Rattle.p9_base.specs.Numbers.{word_at}
-use Rattle.p9_r3k.specs.Memory.{Core, text_start, stack_start, read_word}
+use Rattle.p9_r3k.specs.Memory.{Core, text_start, stack_start, stack_end, read_word}
 use Rattle.p9_r3k.specs.Machine.{State, run}
 use Rattle.p9_r3k.specs.Start.{zeros, page_from, low_bytes, start}
-use Rattle.p9_r3k.specs.Laws.{LaidOut, KeepsText, ImageFits}
+use Rattle.p9_r3k.specs.Laws.{LaidOut, KeepsText, ImageFits, AreBytes, HoldsWords}
 use Rattle.p9_r3k.proofs.Kept.{run-keeps}
 
 pub length-zeros : (n : ℕ) → length (zeros n) ≡ n
@@ -112,3 +114,27 @@ run-word text init bss entry input n a fits from to =
     let s : State = start text init bss entry input in
     read_word-kept s.core (run n s).core a (run-keeps n s (start-laid text init bss entry input fits)) from (omega (arith, above)) below
     ∙ start-word text init bss entry input a from to below
+
+-- The start holds words
+
+pub zeros-bytes : (n : ℕ) → AreBytes (zeros n)
+unfolding zeros
+zeros-bytes n = All-replicate (λ b. b < 2 ^ 8) n 0 (omega arith)
+
+pub start-words :
+    (text init : List ℕ) (bss entry : ℕ) (input : List ℕ) → AreBytes text → AreBytes init →
+    HoldsWords (start text init bss entry input).core
+start-words text init bss entry input ht hi =
+    let gap : ℕ = page_from (text_start + length text) - (text_start + length text) in
+    let P : ℕ → Type 0 = λ b. b < 2 ^ 8 in
+    record {
+      count = refl;
+      zero_register = refl;
+      registers = All-set IsWord (replicate 32 0) 29 stack_end (omega arith) (All-replicate IsWord 32 0 (omega arith));
+      high = omega arith;
+      less = omega arith;
+      low_bytes =
+        All-append P (text ++ zeros gap ++ init) (zeros bss)
+            (All-append P (text ++ zeros gap) init (All-append P text (zeros gap) ht (zeros-bytes gap)) hi) (zeros-bytes bss);
+      stack_bytes = zeros-bytes (2 ^ 24);
+    }

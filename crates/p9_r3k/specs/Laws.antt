@@ -1,10 +1,11 @@
 -- Laws of the machines' runs.
-use Rattle.std.specs.Prelude.{ℕ, ◌+◌, ◌-◌, ◌^◌, ◌≡◌, ◌≤◌, ◌++◌, List, length, take}
+use Rattle.std.specs.Prelude.{ℕ, ◌+◌, ◌-◌, ◌^◌, ◌≡◌, ◌≤◌, ◌<◌, ◌++◌, List, length, take, All}
+use Rattle.p9_base.specs.Words.{IsWord}
 use Rattle.p9_base.specs.Numbers.{word_at}
 use Rattle.p9_r3k.specs.declared.halt.Ending.{Ending}
 use Rattle.p9_r3k.specs.declared.halt.Ending.TheVariants.{Running, Exited, Halted}
 use Rattle.p9_r3k.specs.declared.lines.Line.{Line}
-use Rattle.p9_r3k.specs.Memory.{Core, text_start, stack_start, stack_end, low_end, read_word}
+use Rattle.p9_r3k.specs.Memory.{Core, text_start, stack_start, stack_end, reg, low_end, read_word}
 use Rattle.p9_r3k.specs.Machine.{State, run}
 use Rattle.p9_r3k.specs.Start.{start}
 use Rattle.p9_r3k.specs.Pending.{Pending, settled, pending_run}
@@ -54,6 +55,27 @@ pub record KeepsText (c d : Core) : Type 0 where
 abbrev pub TextStays : Type 0
 TextStays = (n : ℕ) (s : State) → LaidOut s.core → KeepsText s.core (run n s).core
 
+-- registers hold words, register 0 holds 0, and memory holds bytes
+abbrev pub AreWords : List ℕ → Type 0
+AreWords xs = All IsWord xs
+
+abbrev pub AreBytes : List ℕ → Type 0
+AreBytes xs = All (λ b. b < 2 ^ 8) xs
+
+pub record HoldsWords (c : Core) : Type 0 where
+  pub count : length c.regs ≡ 32
+  pub zero_register : reg c 0 ≡ 0
+  pub registers : AreWords c.regs
+  pub high : IsWord c.hi
+  pub less : IsWord c.lo
+  pub low_bytes : AreBytes c.low
+  pub stack_bytes : AreBytes c.stack
+
+abbrev pub WordsStay : Type 0
+WordsStay =
+    (n : ℕ) (s : State) → HoldsWords s.core → AreBytes s.left →
+    HoldsWords (run n s).core × AreBytes (run n s).left
+
 -- an image's text, data with bss, within what the machine has room for
 abbrev pub ImageFits : (text init : List ℕ) → (bss : ℕ) → Type 0
 ImageFits text init bss = (length text ≤ 2 ^ 25) × (length init + bss ≤ 2 ^ 24)
@@ -69,6 +91,11 @@ RunsItsText =
     (text init : List ℕ) (bss entry : ℕ) (input : List ℕ) (n a : ℕ) →
     ImageFits text init bss → text_start ≤ a → a + 4 ≤ text_start + length text →
     read_word (run n (start text init bss entry input)).core a ≡ word_at text (a - text_start)
+
+abbrev pub StartsWithWords : Type 0
+StartsWithWords =
+    (text init : List ℕ) (bss entry : ℕ) (input : List ℕ) →
+    AreBytes text → AreBytes init → HoldsWords (start text init bss entry input).core
 
 -- Of the straight machine
 

@@ -1,6 +1,6 @@
 // What holds of every run, as contracts of functions that do nothing.
 
-ghost use Rattle.p9_r3k.specs.Laws.{EndedStays, RunsCompose, OutputGrows, InputShrinks, StraightEndedStays, StraightRunsCompose, StraightOutputGrows, StraightInputShrinks, LoadsComeLater, TextStays, StartsLaidOut, RunsItsText};
+ghost use Rattle.p9_r3k.specs.Laws.{EndedStays, RunsCompose, OutputGrows, InputShrinks, StraightEndedStays, StraightRunsCompose, StraightOutputGrows, StraightInputShrinks, LoadsComeLater, TextStays, StartsLaidOut, RunsItsText, StartsWithWords, WordsStay};
 
 /// The machine's runs.
 pub fn machine_laws()
@@ -29,3 +29,10 @@ pub fn text_laws()
     ensures kept { TextStays }
     ensures words { RunsItsText }
 {}
+
+/// Registers hold words and memory holds bytes, and register 0 holds 0.
+pub fn word_laws()
+    ensures start { StartsWithWords }
+    ensures kept { WordsStay }
+{
+}

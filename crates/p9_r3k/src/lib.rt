@@ -10,7 +10,7 @@ mod lines;
 pub use code::{decode, encode};
 pub use halt::{Asked, Effect, Ending, HaltCause};
 pub use inst::Inst;
-pub use laws::{machine_laws, pending_laws, straight_laws, text_laws};
+pub use laws::{machine_laws, pending_laws, straight_laws, text_laws, word_laws};
 pub use lines::{Line, Lines, Part, Value};
 
 #[cfg(test)]
