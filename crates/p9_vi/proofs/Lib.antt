@@ -1,0 +1,4 @@
+pub mod CallLists
+pub mod Pieces
+pub mod Requests
+pub mod Stepping

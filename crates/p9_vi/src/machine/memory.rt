@@ -1,0 +1,179 @@
+// Registers and memory by address.
+ghost use Rattle.std.specs.Prelude.{◌≡◌, ◌<◌, ◌≤◌, ◌+◌, ◌^◌, length};
+ghost use Rattle.p9_base.specs.Numbers.{word_at};
+ghost use Rattle.p9_r3k.specs.Memory.{reg, with_reg, readable, writable, half_in, with_half_in, with_word_in, read_byte, read_half, read_word, with_byte, with_half, with_word, bytes_from};
+
+use crate::machine::{Machine, STACK_END, STACK_START, TEXT_START};
+use p9_base::get32;
+
+impl Machine {
+    // What a register holds.
+    pub(super) fn reg(&self, r: u32) -> u32
+        requires { r < 32 }
+        ensures { result ≡ reg self.now r }
+    {
+        self.regs[r as usize]
+    }
+
+    // Sets a register, but for register 0.
+    pub(super) fn set_reg(&mut self, r: u32, value: u32)
+        requires { r < 32 }
+        ensures { self.new ≡ record self.old { regs = with_reg self.old.regs r value } }
+    {
+        if r != 0 {
+            self.regs[r as usize] = value;
+        }
+    }
+
+    // How many bytes from an address on may be read.
+    pub(super) fn readable(&self, a: u32) -> u32
+        ensures exact { result ≡ readable self.now a }
+        ensures bound { a + result < 2 ^ 32 }
+    {
+        if a < TEXT_START {
+            0
+        } else if a < self.text_end {
+            if self.text_end == self.data_start {
+                self.low_end - a
+            } else {
+                self.text_end - a
+            }
+        } else if a < self.data_start {
+            0
+        } else if a < self.low_end {
+            self.low_end - a
+        } else if a < STACK_START {
+            0
+        } else if a < STACK_END {
+            STACK_END - a
+        } else {
+            0
+        }
+    }
+
+    // How many bytes from an address on may be written.
+    pub(super) fn writable(&self, a: u32) -> u32
+        ensures exact { result ≡ writable self.now a }
+        ensures bound { a + result < 2 ^ 32 }
+    {
+        if a < self.data_start {
+            0
+        } else if a < self.low_end {
+            self.low_end - a
+        } else if a < STACK_START {
+            0
+        } else if a < STACK_END {
+            STACK_END - a
+        } else {
+            0
+        }
+    }
+
+    pub(super) fn byte(&self, a: u32) -> u32
+        requires { 1 ≤ readable self.now a }
+        ensures { result ≡ read_byte self.now a }
+    {
+        if a < STACK_START {
+            u32::from(self.low[(a - TEXT_START) as usize])
+        } else {
+            u32::from(self.stack[(a - STACK_START) as usize])
+        }
+    }
+
+    pub(super) fn half(&self, a: u32) -> u32
+        requires { 2 ≤ readable self.now a }
+        ensures { result ≡ read_half self.now a }
+    {
+        if a < STACK_START {
+            half_in(&self.low, (a - TEXT_START) as usize)
+        } else {
+            half_in(&self.stack, (a - STACK_START) as usize)
+        }
+    }
+
+    pub(super) fn word(&self, a: u32) -> u32
+        requires { 4 ≤ readable self.now a }
+        ensures { result ≡ read_word self.now a }
+    {
+        if a < STACK_START {
+            get32(&self.low, (a - TEXT_START) as usize)
+        } else {
+            get32(&self.stack, (a - STACK_START) as usize)
+        }
+    }
+
+    pub(super) fn set_byte(&mut self, a: u32, value: u8)
+        requires { 1 ≤ writable self.old a }
+        ensures { self.new ≡ with_byte self.old a value }
+    {
+        if a < STACK_START {
+            self.low[(a - TEXT_START) as usize] = value;
+        } else {
+            self.stack[(a - STACK_START) as usize] = value;
+        }
+    }
+
+    pub(super) fn set_half(&mut self, a: u32, value: u32)
+        requires { 2 ≤ writable self.old a }
+        ensures { self.new ≡ with_half self.old a value }
+    {
+        if a < STACK_START {
+            set_half_in(&mut self.low, (a - TEXT_START) as usize, value);
+        } else {
+            set_half_in(&mut self.stack, (a - STACK_START) as usize, value);
+        }
+    }
+
+    pub(super) fn set_word(&mut self, a: u32, value: u32)
+        requires { 4 ≤ writable self.old a }
+        ensures { self.new ≡ with_word self.old a value }
+    {
+        if a < STACK_START {
+            set_word_in(&mut self.low, (a - TEXT_START) as usize, value);
+        } else {
+            set_word_in(&mut self.stack, (a - STACK_START) as usize, value);
+        }
+    }
+
+    // The bytes of a range.
+    pub(super) fn bytes(&self, a: u32, count: u32) -> &[u8]
+        requires { count ≤ readable self.now a }
+        ensures exact { result.now ≡ bytes_from self.now a count }
+        ensures len { length result.now ≡ count }
+    {
+        if count == 0 {
+            &self.low[..0]
+        } else if a < STACK_START {
+            let start = (a - TEXT_START) as usize;
+            &self.low[start..start + count as usize]
+        } else {
+            let start = (a - STACK_START) as usize;
+            &self.stack[start..start + count as usize]
+        }
+    }
+}
+
+fn half_in(bytes: &[u8], i: usize) -> u32
+    requires { i + 2 ≤ length bytes.now }
+    ensures { result ≡ half_in bytes.now i }
+{
+    u32::from(bytes[i]) * 0x100 + u32::from(bytes[i + 1])
+}
+
+fn set_half_in(bytes: &mut [u8], i: usize, half: u32)
+    requires { i + 2 ≤ length bytes.old }
+    ensures { bytes.new ≡ with_half_in bytes.old i half }
+{
+    bytes[i] = (half / 0x100 % 0x100) as u8;
+    bytes[i + 1] = (half % 0x100) as u8;
+}
+
+fn set_word_in(bytes: &mut [u8], i: usize, word: u32)
+    requires { i + 4 ≤ length bytes.old }
+    ensures { bytes.new ≡ with_word_in bytes.old i word }
+{
+    bytes[i] = (word / 0x100_0000 % 0x100) as u8;
+    bytes[i + 1] = (word / 0x1_0000 % 0x100) as u8;
+    bytes[i + 2] = (word / 0x100 % 0x100) as u8;
+    bytes[i + 3] = (word % 0x100) as u8;
+}
