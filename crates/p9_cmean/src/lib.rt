@@ -1,0 +1,37 @@
+//! What C programs mean, as definitions: `specs/` has objects and their cells, the system calls,
+//! and the run of a program in a number of turns.
+#![tactic(auto)]
+
+ghost use Rattle.p9_cmean.specs.Laws.{RunsOfExits};
+
+/// An operation that C leaves undefined.
+#[derive(Clone, Copy, Debug, PartialEq, Eq, Drop)]
+pub enum Cause {
+    Unset,
+    Mixed,
+    Range,
+    Dead,
+    Null,
+    Misaligned,
+    Divide,
+    Shift,
+    Compare,
+    WrongCall,
+    NoValue,
+    Overlap,
+}
+
+/// Where an operation stands: the number of its module, and that of its node in it.
+#[derive(Clone, Copy, Debug, PartialEq, Eq, Drop)]
+pub struct Place {
+    pub module: u32,
+    pub node: u32,
+}
+
+/// The law that `main` with one call of `exits` on a text is out of turns before the second, and
+/// has ended with the text from then on.
+#[tactic(auto, using(crate::proofs::Exits::runs_of_exits))]
+pub fn runs_of_exits()
+    ensures { RunsOfExits }
+{
+}

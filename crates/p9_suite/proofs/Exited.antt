@@ -1,0 +1,54 @@
+-- A run that has exited stays, so it exits with one text.
+use Rattle.std.proofs.Common.{◌≡◌, ℕ, ◌+◌, ◌≤◌, zero, suc, List, [], Option, Some, None, IsSomeAnd, Result, Ok, Err, option_map, refl, sym, ap, ◌∙◌, subst, arith}
+use Rattle.p9_aout.specs.Image.{ImageParts, image_of}
+use Rattle.p9_aout.specs.declared.format.AoutFault.{AoutFault}
+use Rattle.p9_r3k.specs.Machine.{State, going, step, run, exit_text}
+use Rattle.p9_r3k.specs.declared.halt.Ending.{Ending}
+use Rattle.p9_r3k.specs.declared.halt.Ending.TheVariants.{Running, Exited, Halted}
+use Rattle.p9_vi.specs.Run.{vrun, start_of, started, IsExited, HasExited}
+use Rattle.p9_cmean.specs.Laws.{exits_with}
+use Rattle.p9_cmean.proofs.Exits.{ended_with_text}
+use Rattle.p9_suite.specs.Form.{IsText}
+use Rattle.p9_suite.specs.Ends.{EndsWith, budget}
+use Rattle.p9_suite.specs.RunCommand.{IsProgram}
+use Rattle.p9_suite.proofs.Compiled.{no_zero_byte}
+
+going_stays : (e : Ending) (s : State) → IsExited e → going e s ≡ s
+going_stays Running s x = absurd x
+going_stays (Exited a n) s x = refl
+going_stays (Halted cause pc) s x = absurd x
+
+step_stays : (s : State) → IsExited s.core.ending → step s ≡ s
+unfolding step
+step_stays s x = going_stays s.core.ending s x
+
+run_stays : (n m : ℕ) (s : State) → IsExited (run m s).core.ending → run (n + m) s ≡ run m s
+unfolding run
+run_stays zero m s x = let e : zero + m ≡ m = omega arith in ap (λ j. run j s) e
+run_stays (suc n) m s x =
+    let e : suc n + m ≡ suc (n + m) = omega arith in
+    ap (λ j. run j s) e ∙ (ap step (run_stays n m s x) ∙ step_stays (run m s) x)
+
+same_end : (m n : ℕ) (s : State) → IsExited (run m s).core.ending → IsExited (run n s).core.ending → run m s ≡ run n s
+same_end m n s x y =
+    let e : n + m ≡ m + n = omega arith in
+    sym (run_stays n m s x) ∙ (ap (λ j. run j s) e ∙ run_stays m n s y)
+
+-- what `HasExited` says of a run from the image's start
+abbrev Ends : State → (output text : List ℕ) → Type 0
+Ends s output text = IsExited s.core.ending × (exit_text s.core ≡ text) × (s.out ≡ output)
+
+one_text : (r : Result ImageParts AoutFault) (input : List ℕ) (m n : ℕ) (output text other end : List ℕ) → IsSomeAnd (option_map (run m) (started r input)) (λ s. Ends s output text) → IsSomeAnd (option_map (run n) (started r input)) (λ s. Ends s other end) → text ≡ end
+one_text (Err fault) input m n output text other end a b = absurd a
+one_text (Ok parts) input m n output text other end a b =
+    sym a.1 ∙ (ap (λ (s : State). exit_text s.core) (same_end m n (start_of parts input) a.0 b.0) ∙ b.1)
+
+pub exits_once : (bytes input : List ℕ) (m n : ℕ) (output text other end : List ℕ) → HasExited bytes input m output text → HasExited bytes input n other end → text ≡ end
+unfolding vrun
+exits_once bytes input m n output text other end a b = one_text (image_of bytes) input m n output text other end a b
+
+-- the text that the run of a program ends with is the program's
+pub printed_is : (text bytes printed : List ℕ) → IsText text → IsProgram text bytes → EndsWith bytes printed → printed ≡ text
+printed_is text bytes printed t k e =
+    let once = k.ended [] 2 [] text (ended_with_text text [] 2 (no_zero_byte text t.characters) (omega arith)) in
+    exits_once bytes [] budget once.0 [] printed [] text (e []) once.1

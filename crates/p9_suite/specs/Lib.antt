@@ -1,0 +1,9 @@
+pub mod Form
+pub mod Commands
+pub mod Answers
+pub mod Reports
+pub mod Program
+pub mod Headline
+pub mod Ends
+pub mod RunCommand
+pub mod Suite
