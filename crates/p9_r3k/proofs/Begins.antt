@@ -134,7 +134,7 @@ start-words text init bss entry input ht hi =
       high = omega arith;
       less = omega arith;
       low_bytes =
-        All-append P (text ++ zeros gap ++ init) (zeros bss)
-            (All-append P (text ++ zeros gap) init (All-append P text (zeros gap) ht (zeros-bytes gap)) hi) (zeros-bytes bss);
+          All-append P (text ++ zeros gap ++ init) (zeros bss)
+          (All-append P (text ++ zeros gap) init (All-append P text (zeros gap) ht (zeros-bytes gap)) hi) (zeros-bytes bss);
       stack_bytes = zeros-bytes (2 ^ 24);
     }

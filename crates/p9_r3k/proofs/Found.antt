@@ -1,5 +1,5 @@
 -- What is fetched is an instruction whose fields fit.
-use Rattle.std.proofs.Common.{ℕ, ◌+◌, ◌*◌, ◌/◌, ◌%◌, ◌^◌, ◌<◌, ◌==◌, ◌≡◌, ◌||◌, ◌&&◌, Bool, true, false, not, Option, Some, None, Result, Ok, Err, refl, sym, ap, ◌∙◌, subst, arith, if◌then◌else◌, IfSome}
+use Rattle.std.proofs.Common.{ℕ, ◌^◌, ◌<◌, ◌==◌, ◌≡◌, ◌||◌, ◌&&◌, Bool, true, false, not, Option, Some, None, Result, Ok, Err, ap, subst, arith, if◌then◌else◌, IfSome}
 use Rattle.p9_r3k.specs.declared.inst.Inst.{Inst}
 use Rattle.p9_r3k.specs.declared.inst.Inst.TheVariants.{J, Jal, Beq, Bne, Blez, Bgtz, Bltz, Bgez, Bltzal, Bgezal, Addi, Addiu, Slti, Sltiu, Andi, Ori, Xori, Lui, Lb, Lh, Lw, Lbu, Lhu, Sb, Sh, Sw, Sll, Srl, Sra, Sllv, Srlv, Srav, Jr, Jalr, Syscall, Break, Mfhi, Mthi, Mflo, Mtlo, Mult, Multu, Div, Divu, Add, Addu, Sub, Subu, And, Or, Xor, Nor, Slt, Sltu}
 use Rattle.p9_r3k.specs.declared.halt.HaltCause.{HaltCause}
@@ -123,7 +123,7 @@ pub without_hazard-found : (o : Option Inst) (c : Core) (i : Inst) → without_h
 without_hazard-found None c i e = cc
 without_hazard-found (Some j) c i e =
     ap Some (three_tests (not (c.loaded == 0) && reads j c.loaded) (writes_pair j && (c.used || c.used_before)) (c.slot && branches j)
-        LoadHazard HiLoHazard SlotBranch i j e).1
+    LoadHazard HiLoHazard SlotBranch i j e).1
 
 pub choice-found : (b : Bool) (o : Option Inst) (c : Core) (i : Inst) (x : HaltCause) →
     (let r : Result Inst HaltCause = (if b then without_hazard o c else Err x) in r ≡ Ok i) → o ≡ Some i

@@ -1,5 +1,5 @@
 -- The lines of the straight machine fit, and its registers and memory hold words and bytes.
-use Rattle.std.proofs.Common.{ℕ, zero, suc, ◌+◌, ◌-◌, ◌*◌, ◌/◌, ◌%◌, ◌^◌, ◌≡◌, ◌<◌, Bool, true, false, nat_lt, if◌then◌else◌, Option, Some, None, refl, ap, ◌∙◌, arith, List, length, slice_get, slice_set}
+use Rattle.std.proofs.Common.{ℕ, zero, suc, ◌+◌, ◌-◌, ◌/◌, ◌%◌, ◌^◌, ◌≡◌, ◌<◌, nat_lt, if◌then◌else◌, Option, Some, None, refl, arith, List, length, slice_get, slice_set}
 use Rattle.p9_base.specs.Words.{word_sum}
 use Rattle.p9_r3k.specs.declared.inst.Inst.{Inst}
 use Rattle.p9_r3k.specs.declared.inst.Inst.TheVariants.{J, Jal, Beq, Bne, Blez, Bgtz, Bltz, Bgez, Bltzal, Bgezal, Addi, Addiu, Slti, Sltiu, Andi, Ori, Xori, Lui, Lb, Lh, Lw, Lbu, Lhu, Sb, Sh, Sw, Sll, Srl, Sra, Sllv, Srlv, Srav, Jr, Jalr, Syscall, Break, Mfhi, Mthi, Mflo, Mtlo, Mult, Multu, Div, Divu, Add, Addu, Sub, Subu, And, Or, Xor, Nor, Slt, Sltu}
@@ -13,11 +13,10 @@ use Rattle.p9_r3k.specs.declared.halt.Ending.TheVariants.{Running, Exited, Halte
 use Rattle.p9_r3k.specs.declared.halt.Effect.{Effect}
 use Rattle.p9_r3k.specs.declared.halt.Effect.TheVariants as effects
 use Rattle.p9_r3k.specs.Table.{Fits}
-use Rattle.p9_r3k.specs.Memory.{Core, text_start, stack_start, with_reg, with_half_in, with_word_in}
+use Rattle.p9_r3k.specs.Memory.{text_start, stack_start, with_half_in, with_word_in}
 use Rattle.p9_r3k.specs.Effects.{effect_of}
-use Rattle.p9_r3k.specs.Machine.{State, asked, halted}
+use Rattle.p9_r3k.specs.Machine.{State, asked}
 use Rattle.p9_r3k.specs.Straight.{Addresses, Straight, with_imm, with_index, with_piece, with_value, filled, line_at, standing, linked_line, on_to, at_once, straight_line, straight_going, straight_step, straight_run}
-use Rattle.p9_r3k.specs.Laws.{HoldsWords}
 use Rattle.p9_r3k.proofs.Words.{HoldsAll, ValuesFit, with_register-words, memory-words-by, set-bytes, half-bytes, word-bytes, halted-words, called-words, asked-count, effect_of-values}
 
 -- What is filled in fits
@@ -158,8 +157,13 @@ LinesFit lines = (i : ℕ) (line : Line) → slice_get lines i ≡ Some line →
 pub standing-holds : (a : Addresses) (x : Straight) → HoldsAll x.state → HoldsAll (standing a x)
 standing-holds a x h = record {
   words = record {
-    count = h.words.count; zero_register = h.words.zero_register; registers = h.words.registers; high = h.words.high;
-    less = h.words.less; low_bytes = h.words.low_bytes; stack_bytes = h.words.stack_bytes;
+    count = h.words.count;
+    zero_register = h.words.zero_register;
+    registers = h.words.registers;
+    high = h.words.high;
+    less = h.words.less;
+    low_bytes = h.words.low_bytes;
+    stack_bytes = h.words.stack_bytes;
   };
   left = h.left;
 }
@@ -179,8 +183,13 @@ at_once-holds a n target (effects.Write r v) i s small f h =
     record { words = with_register-words s.core r v f h.words; left = h.left }
 at_once-holds a n target (effects.Pair hi lo) i s small f h = record {
   words = record {
-    count = h.words.count; zero_register = h.words.zero_register; registers = h.words.registers; high = f.0; less = f.1;
-    low_bytes = h.words.low_bytes; stack_bytes = h.words.stack_bytes;
+    count = h.words.count;
+    zero_register = h.words.zero_register;
+    registers = h.words.registers;
+    high = f.0;
+    less = f.1;
+    low_bytes = h.words.low_bytes;
+    stack_bytes = h.words.stack_bytes;
   };
   left = h.left;
 }
@@ -188,20 +197,20 @@ at_once-holds a n target (effects.Load r v) i s small f h =
     record { words = with_register-words s.core r v f h.words; left = h.left }
 at_once-holds a n target (effects.StoreByte p v) i s small f h = record {
   words =
-    memory-words-by (nat_lt p stack_start) s.core (slice_set s.core.low (p - text_start) v) (slice_set s.core.stack (p - stack_start) v)
-        h.words (set-bytes s.core.low (p - text_start) v f h.words.low_bytes) (set-bytes s.core.stack (p - stack_start) v f h.words.stack_bytes);
+      memory-words-by (nat_lt p stack_start) s.core (slice_set s.core.low (p - text_start) v) (slice_set s.core.stack (p - stack_start) v)
+      h.words (set-bytes s.core.low (p - text_start) v f h.words.low_bytes) (set-bytes s.core.stack (p - stack_start) v f h.words.stack_bytes);
   left = h.left;
 }
 at_once-holds a n target (effects.StoreHalf p v) i s small f h = record {
   words =
-    memory-words-by (nat_lt p stack_start) s.core (with_half_in s.core.low (p - text_start) v) (with_half_in s.core.stack (p - stack_start) v)
-        h.words (half-bytes s.core.low (p - text_start) v h.words.low_bytes) (half-bytes s.core.stack (p - stack_start) v h.words.stack_bytes);
+      memory-words-by (nat_lt p stack_start) s.core (with_half_in s.core.low (p - text_start) v) (with_half_in s.core.stack (p - stack_start) v)
+      h.words (half-bytes s.core.low (p - text_start) v h.words.low_bytes) (half-bytes s.core.stack (p - stack_start) v h.words.stack_bytes);
   left = h.left;
 }
 at_once-holds a n target (effects.StoreWord p v) i s small f h = record {
   words =
-    memory-words-by (nat_lt p stack_start) s.core (with_word_in s.core.low (p - text_start) v) (with_word_in s.core.stack (p - stack_start) v)
-        h.words (word-bytes s.core.low (p - text_start) v h.words.low_bytes) (word-bytes s.core.stack (p - stack_start) v h.words.stack_bytes);
+      memory-words-by (nat_lt p stack_start) s.core (with_word_in s.core.low (p - text_start) v) (with_word_in s.core.stack (p - stack_start) v)
+      h.words (word-bytes s.core.low (p - text_start) v h.words.low_bytes) (word-bytes s.core.stack (p - stack_start) v h.words.stack_bytes);
   left = h.left;
 }
 at_once-holds a n target (effects.Branch r taken to) i s small f h =
@@ -217,7 +226,7 @@ pub straight_line-holds :
 straight_line-holds a n None i s small fits h = record { words = halted-words s.core Fetch h.words; left = h.left }
 straight_line-holds a n (Some line) i s small fits h =
     at_once-holds a n line.target (effect_of (filled a line) s.core) i s small
-        (effect_of-values (filled a line) s.core (filled-fits a line (fits line refl)) h.words) h
+    (effect_of-values (filled a line) s.core (filled-fits a line (fits line refl)) h.words) h
 
 pub straight_going-holds :
     (a : Addresses) (lines : List Line) (e : Ending) (x : Straight) →

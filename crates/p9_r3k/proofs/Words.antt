@@ -1,12 +1,12 @@
 -- Registers stay words, register 0 stays 0, and memory stays bytes.
-use Rattle.std.proofs.Common.{ℕ, zero, suc, ◌+◌, ◌-◌, ◌*◌, ◌/◌, ◌%◌, ◌^◌, ◌==◌, ◌≡◌, ◌≢◌, ◌≤◌, ◌<◌, ◌++◌, Bool, true, false, not, nat_lt, nat_le, if◌then◌else◌, Option, Some, None, Result, Ok, Err, refl, sym, ap, ◌∙◌, subst, arith, List, length, take, drop, min, slice_index, slice_set, bit_and, bit_or, bit_xor, All, position, ◌||◌}
-use Rattle.std.proofs.Math.Nat.{div-le_self, mod-le, mod-lt, pow-le-pow_right}
+use Rattle.std.proofs.Common.{ℕ, zero, suc, ◌+◌, ◌-◌, ◌*◌, ◌/◌, ◌%◌, ◌^◌, ◌==◌, ◌≡◌, ◌≢◌, ◌≤◌, ◌<◌, ◌++◌, Bool, true, false, not, nat_lt, nat_le, if◌then◌else◌, Option, Some, None, Result, Ok, Err, refl, sym, ◌∙◌, subst, arith, List, length, take, drop, min, slice_index, slice_set, bit_and, All, position, ◌||◌}
+use Rattle.std.proofs.Math.Nat.{div-le_self, mod-le, pow-le-pow_right}
 use Rattle.std.proofs.lemmas.Nat.{and_le_l, or_of_32, xor_of_32, mul-lt}
 use Rattle.std.proofs.lemmas.List.{get_or-set_other, get_or_past, length-set}
 use Rattle.std.proofs.lemmas.List.Elements.{All-append, All-take, All-drop, All-set, All-get_or}
 use Rattle.std.proofs.lemmas.Bool.{ltb-true, ltb-false}
 use Rattle.std.proofs.lemmas.Bool.Decides.{nat_tests}
-use Rattle.p9_base.specs.Words.{IsWord, word_sum, word_difference, word_negation, is_negative, is_signed_less, magnitude, with_sign, signs_differ, signed_quotient, signed_remainder, unsigned_product, signed_product, shift_left, shift_right, shift_right_signed, low8, low16, word_nor}
+use Rattle.p9_base.specs.Words.{IsWord, word_sum, word_difference, is_negative, is_signed_less, magnitude, with_sign, signs_differ, signed_quotient, signed_remainder, unsigned_product, signed_product, shift_right, shift_right_signed, low8, low16, word_nor}
 use Rattle.p9_base.specs.Numbers.{sign_extended}
 use Rattle.p9_base.proofs.Shifts.{shifted_below}
 use Rattle.p9_r3k.specs.declared.inst.Inst.{Inst}
@@ -69,12 +69,12 @@ choice-below false n x y hx hy = hy
 pub read_half-below : (c : Core) (a : ℕ) → HoldsWords c → read_half c a < 2 ^ 16
 read_half-below c a h =
     choice-below (nat_lt a stack_start) (2 ^ 16) (half_in c.low (a - text_start)) (half_in c.stack (a - stack_start))
-        (half_in-below c.low (a - text_start) h.low_bytes) (half_in-below c.stack (a - stack_start) h.stack_bytes)
+    (half_in-below c.low (a - text_start) h.low_bytes) (half_in-below c.stack (a - stack_start) h.stack_bytes)
 
 pub read_word-below : (c : Core) (a : ℕ) → HoldsWords c → read_word c a < 2 ^ 32
 read_word-below c a h =
     choice-below (nat_lt a stack_start) (2 ^ 32) (word_in c.low (a - text_start)) (word_in c.stack (a - stack_start))
-        (word_in-below c.low (a - text_start) h.low_bytes) (word_in-below c.stack (a - stack_start) h.stack_bytes)
+    (word_in-below c.low (a - text_start) h.low_bytes) (word_in-below c.stack (a - stack_start) h.stack_bytes)
 
 -- Values
 
@@ -176,25 +176,25 @@ pub load_byte-values :
     ValuesFit (load_byte c r a extended)
 load_byte-values c r a extended h e =
     choice-values (nat_le 1 (readable c a)) (effects.Load r (extended (read_byte c a))) (effects.Stop (halts.BadAddress a))
-        (e (read_byte c a) (read_byte-below c a h)) tt
+    (e (read_byte c a) (read_byte-below c a h)) tt
 
 pub load_half-values :
     (c : Core) (r a : ℕ) (extended : ℕ → ℕ) → HoldsWords c → ((b : ℕ) → b < 2 ^ 16 → extended b < 2 ^ 32) →
     ValuesFit (load_half c r a extended)
 load_half-values c r a extended h e =
     choice-values (a % 2 == 0)
-        (if nat_le 2 (readable c a) then effects.Load r (extended (read_half c a)) else effects.Stop (halts.BadAddress a))
-        (effects.Stop (halts.Misaligned a))
-        (choice-values (nat_le 2 (readable c a)) (effects.Load r (extended (read_half c a))) (effects.Stop (halts.BadAddress a))
-            (e (read_half c a) (read_half-below c a h)) tt) tt
+    (if nat_le 2 (readable c a) then effects.Load r (extended (read_half c a)) else effects.Stop (halts.BadAddress a))
+    (effects.Stop (halts.Misaligned a))
+    (choice-values (nat_le 2 (readable c a)) (effects.Load r (extended (read_half c a))) (effects.Stop (halts.BadAddress a))
+    (e (read_half c a) (read_half-below c a h)) tt) tt
 
 pub load_word-values : (c : Core) (r a : ℕ) → HoldsWords c → ValuesFit (load_word c r a)
 load_word-values c r a h =
     choice-values (a % 4 == 0)
-        (if nat_le 4 (readable c a) then effects.Load r (read_word c a) else effects.Stop (halts.BadAddress a))
-        (effects.Stop (halts.Misaligned a))
-        (choice-values (nat_le 4 (readable c a)) (effects.Load r (read_word c a)) (effects.Stop (halts.BadAddress a))
-            (read_word-below c a h) tt) tt
+    (if nat_le 4 (readable c a) then effects.Load r (read_word c a) else effects.Stop (halts.BadAddress a))
+    (effects.Stop (halts.Misaligned a))
+    (choice-values (nat_le 4 (readable c a)) (effects.Load r (read_word c a)) (effects.Stop (halts.BadAddress a))
+    (read_word-below c a h) tt) tt
 
 pub store_byte-values : (c : Core) (a v : ℕ) → ValuesFit (store_byte c a v)
 store_byte-values c a v =
@@ -203,14 +203,14 @@ store_byte-values c a v =
 pub store_half-values : (c : Core) (a v : ℕ) → ValuesFit (store_half c a v)
 store_half-values c a v =
     choice-values (a % 2 == 0) (if nat_le 2 (writable c a) then effects.StoreHalf a (low16 v) else effects.Stop (halts.BadAddress a))
-        (effects.Stop (halts.Misaligned a))
-        (choice-values (nat_le 2 (writable c a)) (effects.StoreHalf a (low16 v)) (effects.Stop (halts.BadAddress a)) tt tt) tt
+    (effects.Stop (halts.Misaligned a))
+    (choice-values (nat_le 2 (writable c a)) (effects.StoreHalf a (low16 v)) (effects.Stop (halts.BadAddress a)) tt tt) tt
 
 pub store_word-values : (c : Core) (a v : ℕ) → ValuesFit (store_word c a v)
 store_word-values c a v =
     choice-values (a % 4 == 0) (if nat_le 4 (writable c a) then effects.StoreWord a v else effects.Stop (halts.BadAddress a))
-        (effects.Stop (halts.Misaligned a))
-        (choice-values (nat_le 4 (writable c a)) (effects.StoreWord a v) (effects.Stop (halts.BadAddress a)) tt tt) tt
+    (effects.Stop (halts.Misaligned a))
+    (choice-values (nat_le 4 (writable c a)) (effects.StoreWord a v) (effects.Stop (halts.BadAddress a)) tt tt) tt
 
 pub effect_of-values : (i : Inst) (c : Core) → Fits i → HoldsWords c → ValuesFit (effect_of i c)
 effect_of-values (J index) c f h = tt
@@ -305,12 +305,22 @@ pub memory-words-by :
     (b : Bool) (c : Core) (bytes stack : List ℕ) → HoldsWords c → AreBytes bytes → AreBytes stack →
     HoldsWords (if b then record c { low = bytes } else record c { stack = stack })
 memory-words-by true c bytes stack h hb hs = record {
-  count = h.count; zero_register = h.zero_register; registers = h.registers; high = h.high; less = h.less;
-  low_bytes = hb; stack_bytes = h.stack_bytes;
+  count = h.count;
+  zero_register = h.zero_register;
+  registers = h.registers;
+  high = h.high;
+  less = h.less;
+  low_bytes = hb;
+  stack_bytes = h.stack_bytes;
 }
 memory-words-by false c bytes stack h hb hs = record {
-  count = h.count; zero_register = h.zero_register; registers = h.registers; high = h.high; less = h.less;
-  low_bytes = h.low_bytes; stack_bytes = hs;
+  count = h.count;
+  zero_register = h.zero_register;
+  registers = h.registers;
+  high = h.high;
+  less = h.less;
+  low_bytes = h.low_bytes;
+  stack_bytes = hs;
 }
 
 pub set-bytes : (xs : List ℕ) (i v : ℕ) → v < 2 ^ 8 → AreBytes xs → AreBytes (slice_set xs i v)
@@ -322,7 +332,7 @@ low8-byte x = omega arith
 pub half-bytes : (xs : List ℕ) (i v : ℕ) → AreBytes xs → AreBytes (with_half_in xs i v)
 half-bytes xs i v h =
     set-bytes (slice_set xs i (v / 2 ^ 8 % 2 ^ 8)) (i + 1) (v % 2 ^ 8) (low8-byte v)
-        (set-bytes xs i (v / 2 ^ 8 % 2 ^ 8) (low8-byte (v / 2 ^ 8)) h)
+    (set-bytes xs i (v / 2 ^ 8 % 2 ^ 8) (low8-byte (v / 2 ^ 8)) h)
 
 pub word-bytes : (xs : List ℕ) (i v : ℕ) → AreBytes xs → AreBytes (with_word_in xs i v)
 word-bytes xs i v h =
@@ -330,38 +340,53 @@ word-bytes xs i v h =
     let two : List ℕ = slice_set one (i + 1) (v / 2 ^ 16 % 2 ^ 8) in
     let three : List ℕ = slice_set two (i + 2) (v / 2 ^ 8 % 2 ^ 8) in
     set-bytes three (i + 3) (v % 2 ^ 8) (low8-byte v)
-        (set-bytes two (i + 2) (v / 2 ^ 8 % 2 ^ 8) (low8-byte (v / 2 ^ 8))
-            (set-bytes one (i + 1) (v / 2 ^ 16 % 2 ^ 8) (low8-byte (v / 2 ^ 16))
-                (set-bytes xs i (v / 2 ^ 24 % 2 ^ 8) (low8-byte (v / 2 ^ 24)) h)))
+    (set-bytes two (i + 2) (v / 2 ^ 8 % 2 ^ 8) (low8-byte (v / 2 ^ 8))
+    (set-bytes one (i + 1) (v / 2 ^ 16 % 2 ^ 8) (low8-byte (v / 2 ^ 16))
+    (set-bytes xs i (v / 2 ^ 24 % 2 ^ 8) (low8-byte (v / 2 ^ 24)) h)))
 
 pub over-bytes : (xs : List ℕ) (i : ℕ) (ys : List ℕ) → AreBytes xs → AreBytes ys → AreBytes (over xs i ys)
 over-bytes xs i ys hx hy =
     All-append (λ b. b < 2 ^ 8) (take i xs ++ ys) (drop (i + length ys) xs)
-        (All-append (λ b. b < 2 ^ 8) (take i xs) ys (All-take (λ b. b < 2 ^ 8) i xs hx) hy)
-        (All-drop (λ b. b < 2 ^ 8) (i + length ys) xs hx)
+    (All-append (λ b. b < 2 ^ 8) (take i xs) ys (All-take (λ b. b < 2 ^ 8) i xs hx) hy)
+    (All-drop (λ b. b < 2 ^ 8) (i + length ys) xs hx)
 
 pub advanced-words : (c : Core) (reader : Bool) → HoldsWords c → HoldsWords (advanced c reader)
 advanced-words c reader h = record {
-  count = h.count; zero_register = h.zero_register; registers = h.registers; high = h.high; less = h.less;
-  low_bytes = h.low_bytes; stack_bytes = h.stack_bytes;
+  count = h.count;
+  zero_register = h.zero_register;
+  registers = h.registers;
+  high = h.high;
+  less = h.less;
+  low_bytes = h.low_bytes;
+  stack_bytes = h.stack_bytes;
 }
 
 pub sent-words : (c : Core) (to : ℕ) → HoldsWords c → HoldsWords (sent c to)
 sent-words c to h = record {
-  count = h.count; zero_register = h.zero_register; registers = h.registers; high = h.high; less = h.less;
-  low_bytes = h.low_bytes; stack_bytes = h.stack_bytes;
+  count = h.count;
+  zero_register = h.zero_register;
+  registers = h.registers;
+  high = h.high;
+  less = h.less;
+  low_bytes = h.low_bytes;
+  stack_bytes = h.stack_bytes;
 }
 
 pub halted-words : (c : Core) (cause : HaltCause) → HoldsWords c → HoldsWords (halted c cause)
 halted-words c cause h = record {
-  count = h.count; zero_register = h.zero_register; registers = h.registers; high = h.high; less = h.less;
-  low_bytes = h.low_bytes; stack_bytes = h.stack_bytes;
+  count = h.count;
+  zero_register = h.zero_register;
+  registers = h.registers;
+  high = h.high;
+  less = h.less;
+  low_bytes = h.low_bytes;
+  stack_bytes = h.stack_bytes;
 }
 
 pub with_bytes-words : (c : Core) (a : ℕ) (xs : List ℕ) → HoldsWords c → AreBytes xs → HoldsWords (with_bytes c a xs)
 with_bytes-words c a xs h hx =
     memory-words-by (nat_lt a stack_start) c (over c.low (a - text_start) xs) (over c.stack (a - stack_start) xs) h
-        (over-bytes c.low (a - text_start) xs h.low_bytes hx) (over-bytes c.stack (a - stack_start) xs h.stack_bytes hx)
+    (over-bytes c.low (a - text_start) xs h.low_bytes hx) (over-bytes c.stack (a - stack_start) xs h.stack_bytes hx)
 
 -- Steps
 
@@ -383,8 +408,13 @@ CountFits (asks.Stop cause) = Unit {0}
 pub called-words : (k : Asked) (s : State) → CountFits k → HoldsAll s → HoldsAll (called k s)
 called-words (asks.Exits at len) s f h = record {
   words = record {
-    count = h.words.count; zero_register = h.words.zero_register; registers = h.words.registers; high = h.words.high;
-    less = h.words.less; low_bytes = h.words.low_bytes; stack_bytes = h.words.stack_bytes;
+    count = h.words.count;
+    zero_register = h.words.zero_register;
+    registers = h.words.registers;
+    high = h.words.high;
+    less = h.words.less;
+    low_bytes = h.words.low_bytes;
+    stack_bytes = h.words.stack_bytes;
   };
   left = h.left;
 }
@@ -393,8 +423,8 @@ called-words (asks.Read at n) s f h =
     let small : k < 2 ^ 32 = omega (arith, f) in
     record {
       words =
-        answered-words (with_bytes s.core at (take k s.left)) k small
-            (with_bytes-words s.core at (take k s.left) h.words (All-take (λ b. b < 2 ^ 8) k s.left h.left));
+          answered-words (with_bytes s.core at (take k s.left)) k small
+          (with_bytes-words s.core at (take k s.left) h.words (All-take (λ b. b < 2 ^ 8) k s.left h.left));
       left = All-drop (λ b. b < 2 ^ 8) k s.left h.left;
     }
 called-words (asks.Write at n) s f h = record { words = answered-words s.core n f h.words; left = h.left }
@@ -417,20 +447,20 @@ exits_of-count a reach (Some k) = tt
 pub asked_exits-count : (c : Core) (a : ℕ) → CountFits (asked_exits c a)
 asked_exits-count c a =
     choice-count (a == 0) (asks.Exits 0 0)
-        (exits_of a (readable c a) (position (λ b. b == 0) (bytes_from c a (readable c a)))) tt
-        (exits_of-count a (readable c a) (position (λ b. b == 0) (bytes_from c a (readable c a))))
+    (exits_of a (readable c a) (position (λ b. b == 0) (bytes_from c a (readable c a)))) tt
+    (exits_of-count a (readable c a) (position (λ b. b == 0) (bytes_from c a (readable c a))))
 
 pub asked_read-count : (c : Core) (d a n : ℕ) → n < 2 ^ 32 → CountFits (asked_read c d a n)
 asked_read-count c d a n h =
     choice-count (not (d == 0) || is_negative n) asks.Refused
-        (if nat_le n (writable c a) then asks.Read a n else asks.Stop (halts.BadAddress (a + writable c a))) tt
-        (choice-count (nat_le n (writable c a)) (asks.Read a n) (asks.Stop (halts.BadAddress (a + writable c a))) h tt)
+    (if nat_le n (writable c a) then asks.Read a n else asks.Stop (halts.BadAddress (a + writable c a))) tt
+    (choice-count (nat_le n (writable c a)) (asks.Read a n) (asks.Stop (halts.BadAddress (a + writable c a))) h tt)
 
 pub asked_write-count : (c : Core) (d a n : ℕ) → n < 2 ^ 32 → CountFits (asked_write c d a n)
 asked_write-count c d a n h =
     choice-count (not (d == 1) || is_negative n) asks.Refused
-        (if nat_le n (readable c a) then asks.Write a n else asks.Stop (halts.BadAddress (a + readable c a))) tt
-        (choice-count (nat_le n (readable c a)) (asks.Write a n) (asks.Stop (halts.BadAddress (a + readable c a))) h tt)
+    (if nat_le n (readable c a) then asks.Write a n else asks.Stop (halts.BadAddress (a + readable c a))) tt
+    (choice-count (nat_le n (readable c a)) (asks.Write a n) (asks.Stop (halts.BadAddress (a + readable c a))) h tt)
 
 pub word_choice : (b d : Bool) (v w : ℕ) (x y : HaltCause) → w < 2 ^ 32 →
     (let r : Result ℕ HaltCause = (if b then (if d then Ok w else Err x) else Err y) in r ≡ Ok v) → v < 2 ^ 32
@@ -444,30 +474,30 @@ word_choice false d v w x y h e = cc
 pub argument-word : (c : Core) (a v : ℕ) → HoldsWords c → argument c a ≡ Ok v → v < 2 ^ 32
 argument-word c a v h e =
     word_choice (a % 4 == 0) (nat_le 4 (readable c a)) v (read_word c a) (halts.BadAddress (a + readable c a)) (halts.Misaligned a)
-        (read_word-below c a h) e
+    (read_word-below c a h) e
 
 pub then_three-count :
     (c : Core) (go : ℕ → ℕ → ℕ → Asked) → HoldsWords c → ((d a n : ℕ) → n < 2 ^ 32 → CountFits (go d a n)) →
     CountFits (then_three c go)
 then_three-count c go words h =
     then_one-count (argument c (word_sum (reg c 29) 4))
-        (λ d. then_one (argument c (word_sum (reg c 29) 8)) (λ a. then_one (argument c (word_sum (reg c 29) 12)) (λ n. go d a n)))
-        (λ d e. then_one-count (argument c (word_sum (reg c 29) 8))
-            (λ a. then_one (argument c (word_sum (reg c 29) 12)) (λ n. go d a n))
-            (λ a e. then_one-count (argument c (word_sum (reg c 29) 12)) (λ n. go d a n)
-                (λ n e. h d a n (argument-word c (word_sum (reg c 29) 12) n words e))))
+    (λ d. then_one (argument c (word_sum (reg c 29) 8)) (λ a. then_one (argument c (word_sum (reg c 29) 12)) (λ n. go d a n)))
+    (λ d e. then_one-count (argument c (word_sum (reg c 29) 8))
+    (λ a. then_one (argument c (word_sum (reg c 29) 12)) (λ n. go d a n))
+    (λ a e. then_one-count (argument c (word_sum (reg c 29) 12)) (λ n. go d a n)
+    (λ n e. h d a n (argument-word c (word_sum (reg c 29) 12) n words e))))
 
 pub asked-count : (c : Core) → HoldsWords c → CountFits (asked c)
 asked-count c words =
     choice-count (reg c 1 == 8) (then_one (argument c (word_sum (reg c 29) 4)) (asked_exits c))
-        (if reg c 1 == 15 then then_three c (asked_read c) else
-            if reg c 1 == 20 then then_three c (asked_write c) else asks.Stop (halts.BadCall (reg c 1)))
-        (then_one-count (argument c (word_sum (reg c 29) 4)) (asked_exits c) (λ a e. asked_exits-count c a))
-        (choice-count (reg c 1 == 15) (then_three c (asked_read c))
-            (if reg c 1 == 20 then then_three c (asked_write c) else asks.Stop (halts.BadCall (reg c 1)))
-            (then_three-count c (asked_read c) words (asked_read-count c))
-            (choice-count (reg c 1 == 20) (then_three c (asked_write c)) (asks.Stop (halts.BadCall (reg c 1)))
-                (then_three-count c (asked_write c) words (asked_write-count c)) tt))
+    (if reg c 1 == 15 then then_three c (asked_read c) else
+    if reg c 1 == 20 then then_three c (asked_write c) else asks.Stop (halts.BadCall (reg c 1)))
+    (then_one-count (argument c (word_sum (reg c 29) 4)) (asked_exits c) (λ a e. asked_exits-count c a))
+    (choice-count (reg c 1 == 15) (then_three c (asked_read c))
+    (if reg c 1 == 20 then then_three c (asked_write c) else asks.Stop (halts.BadCall (reg c 1)))
+    (then_three-count c (asked_read c) words (asked_read-count c))
+    (choice-count (reg c 1 == 20) (then_three c (asked_write c)) (asks.Stop (halts.BadCall (reg c 1)))
+    (then_three-count c (asked_write c) words (asked_write-count c)) tt))
 
 pub acted-words : (e : Effect) (s : State) (reader : Bool) → ValuesFit e → HoldsAll s → HoldsAll (acted e s reader)
 acted-words (effects.Write r v) s reader f h = record {
@@ -476,8 +506,13 @@ acted-words (effects.Write r v) s reader f h = record {
 }
 acted-words (effects.Pair hi lo) s reader f h = record {
   words = record {
-    count = h.words.count; zero_register = h.words.zero_register; registers = h.words.registers; high = f.0; less = f.1;
-    low_bytes = h.words.low_bytes; stack_bytes = h.words.stack_bytes;
+    count = h.words.count;
+    zero_register = h.words.zero_register;
+    registers = h.words.registers;
+    high = f.0;
+    less = f.1;
+    low_bytes = h.words.low_bytes;
+    stack_bytes = h.words.stack_bytes;
   };
   left = h.left;
 }
@@ -485,42 +520,47 @@ acted-words (effects.Load r v) s reader f h =
     let k : HoldsWords (record s.core { regs = with_reg s.core.regs r v }) = with_register-words s.core r v f h.words in
     record {
       words = record {
-        count = k.count; zero_register = k.zero_register; registers = k.registers; high = k.high; less = k.less;
-        low_bytes = k.low_bytes; stack_bytes = k.stack_bytes;
+        count = k.count;
+        zero_register = k.zero_register;
+        registers = k.registers;
+        high = k.high;
+        less = k.less;
+        low_bytes = k.low_bytes;
+        stack_bytes = k.stack_bytes;
       };
       left = h.left;
     }
 acted-words (effects.StoreByte a v) s reader f h = record {
   words =
-    advanced-words (with_byte s.core a v) reader
-        (memory-words-by (nat_lt a stack_start) s.core (slice_set s.core.low (a - text_start) v) (slice_set s.core.stack (a - stack_start) v)
-            h.words (set-bytes s.core.low (a - text_start) v f h.words.low_bytes) (set-bytes s.core.stack (a - stack_start) v f h.words.stack_bytes));
+      advanced-words (with_byte s.core a v) reader
+      (memory-words-by (nat_lt a stack_start) s.core (slice_set s.core.low (a - text_start) v) (slice_set s.core.stack (a - stack_start) v)
+      h.words (set-bytes s.core.low (a - text_start) v f h.words.low_bytes) (set-bytes s.core.stack (a - stack_start) v f h.words.stack_bytes));
   left = h.left;
 }
 acted-words (effects.StoreHalf a v) s reader f h = record {
   words =
-    advanced-words (with_half s.core a v) reader
-        (memory-words-by (nat_lt a stack_start) s.core (with_half_in s.core.low (a - text_start) v) (with_half_in s.core.stack (a - stack_start) v)
-            h.words (half-bytes s.core.low (a - text_start) v h.words.low_bytes) (half-bytes s.core.stack (a - stack_start) v h.words.stack_bytes));
+      advanced-words (with_half s.core a v) reader
+      (memory-words-by (nat_lt a stack_start) s.core (with_half_in s.core.low (a - text_start) v) (with_half_in s.core.stack (a - stack_start) v)
+      h.words (half-bytes s.core.low (a - text_start) v h.words.low_bytes) (half-bytes s.core.stack (a - stack_start) v h.words.stack_bytes));
   left = h.left;
 }
 acted-words (effects.StoreWord a v) s reader f h = record {
   words =
-    advanced-words (with_word s.core a v) reader
-        (memory-words-by (nat_lt a stack_start) s.core (with_word_in s.core.low (a - text_start) v) (with_word_in s.core.stack (a - stack_start) v)
-            h.words (word-bytes s.core.low (a - text_start) v h.words.low_bytes) (word-bytes s.core.stack (a - stack_start) v h.words.stack_bytes));
+      advanced-words (with_word s.core a v) reader
+      (memory-words-by (nat_lt a stack_start) s.core (with_word_in s.core.low (a - text_start) v) (with_word_in s.core.stack (a - stack_start) v)
+      h.words (word-bytes s.core.low (a - text_start) v h.words.low_bytes) (word-bytes s.core.stack (a - stack_start) v h.words.stack_bytes));
   left = h.left;
 }
 acted-words (effects.Branch r taken to) s reader f h = record {
   words =
-    sent-words (linked s.core r) (if taken then to else word_sum s.core.pc 8)
-        (with_register-words s.core r (word_sum s.core.pc 8) (modulo-word (s.core.pc + 8)) h.words);
+      sent-words (linked s.core r) (if taken then to else word_sum s.core.pc 8)
+      (with_register-words s.core r (word_sum s.core.pc 8) (modulo-word (s.core.pc + 8)) h.words);
   left = h.left;
 }
 acted-words (effects.JumpTo r to) s reader f h = record {
   words =
-    sent-words (linked s.core r) to
-        (with_register-words s.core r (word_sum s.core.pc 8) (modulo-word (s.core.pc + 8)) h.words);
+      sent-words (linked s.core r) to
+      (with_register-words s.core r (word_sum s.core.pc 8) (modulo-word (s.core.pc + 8)) h.words);
   left = h.left;
 }
 acted-words effects.Call s reader f h = called-words (asked s.core) s (asked-count s.core h.words) h

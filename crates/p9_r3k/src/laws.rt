@@ -34,5 +34,4 @@ pub fn text_laws()
 pub fn word_laws()
     ensures start { StartsWithWords }
     ensures kept { WordsStay }
-{
-}
+{}
