@@ -50,8 +50,7 @@ pub took_more : (d n : ℕ) (left now later : Option (List ℕ)) (room0 room fil
 took_more d n None now later room0 room filled h t a = tt
 took_more d n (Some bytes) now later room0 room filled h t a =
     let P : Option (List ℕ) → Type 0 = λ x. Takes x later (take (length room - d) (drop d room)) filled (took.TheVariants.Got n) in
-    let r = subst P t.1 a in
-    (
+    let r = subst P t.1 a in (
       omega (arith, r.2.0, t.0, length-drop d bytes),
       r.2.1 ∙ ap Some (drop-drop n d bytes),
       put_on d n bytes room room0 filled t.0 t.2 r.2.2,

@@ -34,8 +34,7 @@ pub read_failed : (left later out : Option (List ℕ)) (request : Asked) (old ne
     Reads left later old new at size false → Told (Calls ReadFault request old new) left later out out
 read_failed left later out request old new at size e reads = λ l s e1 e2.
     let P : Option (List ℕ) → Type 0 = λ x. Reads x later old new at size false in
-    let r = subst P e1 reads in
-    (
+    let r = subst P e1 reads in (
       drop r.0 l,
       s,
       r.3,
@@ -54,8 +53,7 @@ pub write_failed : (left out now : Option (List ℕ)) (request : Asked) (old new
     PutsPiece out now old at size false → new ≡ old → Told (Calls WriteFault request old new) left left out now
 write_failed left out now request old new at size e puts after = λ l s e1 e2.
     let P : Option (List ℕ) → Type 0 = λ x. PutsPiece x now old at size false in
-    let r = subst P e2 puts in
-    (
+    let r = subst P e2 puts in (
       l,
       s ++ take r.0 (bytes_from old at size),
       e1,

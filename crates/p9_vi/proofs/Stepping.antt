@@ -180,8 +180,7 @@ pub read_fault_told : (n k : ℕ) (left mid later out now then : Option (List �
     Told (Steps ReadFault m new) mid later now then → Told (RunsToRead n old new) left later out then
 read_fault_told n k left mid later out now then old m new h r d = λ l s e1 e2.
     let t = r l s e1 e2 in
-    let u = d t.0 t.1 t.2 t.3 in
-    (
+    let u = d t.0 t.1 t.2 t.3 in (
       u.0,
       u.1,
       u.2,

@@ -11,3 +11,6 @@ mod streams;
 pub use machine::Machine;
 pub use simulation::simulate;
 pub use stop::Stop;
+
+#[cfg(test)]
+mod tests;

@@ -59,20 +59,20 @@ impl Model for Machine {
     ghost Value = { Core };
 
     ghost view = { λ m. record {
-        regs = m.regs;
-        hi = m.hi;
-        lo = m.lo;
-        low = m.low.items;
-        stack = m.stack.items;
-        text_end = m.text_end;
-        data_start = m.data_start;
-        pc = m.pc;
-        next = m.next;
-        slot = m.slot;
-        loaded = m.loaded;
-        used = m.used;
-        used_before = m.used_before;
-        ending = m.ending
+      regs = m.regs;
+      hi = m.hi;
+      lo = m.lo;
+      low = m.low.items;
+      stack = m.stack.items;
+      text_end = m.text_end;
+      data_start = m.data_start;
+      pc = m.pc;
+      next = m.next;
+      slot = m.slot;
+      loaded = m.loaded;
+      used = m.used;
+      used_before = m.used_before;
+      ending = m.ending;
     } };
 
     ghost invariant = { λ m. (m.low_end ≡ text_start + length m.low.items) × (length m.stack.items ≡ 2 ^ 24)
@@ -86,7 +86,12 @@ impl Machine {
         requires { IsWithinBounds (parts_of image.now) }
         ensures { IfOk result (λ machine. machine ≡ (start_of (parts_of image.now) []).core) }
     {
-        let low = low_bytes(alloc, &image.text.list, &image.init.list, image.bss as usize)?;
+        let low = low_bytes(
+            alloc,
+            &image.text.list,
+            &image.init.list,
+            image.bss as usize,
+        )?;
         let stack = zeros(alloc, STACK_SIZE)?;
         let text_end = TEXT_START + image.text.list.len() as u32;
         Ok(before_run(low, stack, text_end, page_from(text_end), image.entry))
@@ -153,13 +158,7 @@ fn low_bytes(alloc: Global, text: &[u8], init: &[u8], bss: usize) -> Result<Vec<
 }
 
 // A machine before its first instruction.
-fn before_run(
-    low: Vec<u8>,
-    stack: Vec<u8>,
-    text_end: u32,
-    data_start: u32,
-    entry: u32,
-) -> Machine
+fn before_run(low: Vec<u8>, stack: Vec<u8>, text_end: u32, data_start: u32, entry: u32) -> Machine
     requires stack { length stack.items ≡ 2 ^ 24 }
     requires text { text_start ≤ text_end }
     requires words { text_end % 4 ≡ 0 }

@@ -40,7 +40,12 @@ pub fn put_all<O: Sink>(out: &mut O, piece: &[u8]) -> bool
 }
 
 /// Fills the part of a list of bytes that has `count` bytes from `start` on.
-pub fn fill_at<I: Source>(input: &mut I, bytes: &mut [u8], start: usize, count: usize) -> Option<usize>
+pub fn fill_at<I: Source>(
+    input: &mut I,
+    bytes: &mut [u8],
+    start: usize,
+    count: usize,
+) -> Option<usize>
     requires { start + count ≤ length bytes.old }
     ensures within { IfSome result (λ n. n ≤ count) }
     ensures fills { FillsPart (I.left input.old) (I.left input.new) bytes.old bytes.new start count result }

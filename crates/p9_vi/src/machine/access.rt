@@ -21,7 +21,10 @@ impl Machine {
     pub(super) fn branch(&self, link: u32, taken: bool, imm: u32) -> Effect
         ensures { result ≡ Effect.Branch link taken (branch_to self.now imm) }
     {
-        let to = self.pc.wrapping_add(4).wrapping_add(sext16(imm).wrapping_mul(4));
+        let to = self
+            .pc
+            .wrapping_add(4)
+            .wrapping_add(sext16(imm).wrapping_mul(4));
         Effect::Branch { link, taken, to }
     }
 

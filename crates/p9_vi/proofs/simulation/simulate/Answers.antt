@@ -15,30 +15,30 @@ loop-step-init g c = record {
 pub returns-then-not-is_running-clause-runs : goal.returns-then-not-is_running-clause-runs
 returns-then-not-is_running-clause-runs g c =
     ended_told c.stop.result c.args.budget c.loop-step._step (g.I.Source.left c.args.input.now) (g.I.Source.left c.loop-step.input)
-        (g.O.Sink.sofar c.args.out.now) (g.O.Sink.sofar c.loop-step.out) c.args.m.now c.loop-step.m c.stop.ensures (omega arith)
-        (λ q. let z = c.if-not-is_running.ensures.1 q in cc) c.loop-step.invariant.runs
+    (g.O.Sink.sofar c.args.out.now) (g.O.Sink.sofar c.loop-step.out) c.args.m.now c.loop-step.m c.stop.ensures (omega arith)
+    (λ q. let z = c.if-not-is_running.ensures.1 q in cc) c.loop-step.invariant.runs
 
 pub returns-in-ReadFault-clause-runs : goal.returns-in-ReadFault-clause-runs
 returns-in-ReadFault-clause-runs g c =
     read_fault_told c.args.budget c.loop-step._step (g.I.Source.left c.args.input.now) (g.I.Source.left c.loop-step.input) (g.I.Source.left c.step.new.input)
-        (g.O.Sink.sofar c.args.out.now) (g.O.Sink.sofar c.loop-step.out) (g.O.Sink.sofar c.step.new.out) c.args.m.now c.loop-step.m c.step.new.self
-        c.loop-step-test.true c.loop-step.invariant.runs c.in-ReadFault.ensures.changes
+    (g.O.Sink.sofar c.args.out.now) (g.O.Sink.sofar c.loop-step.out) (g.O.Sink.sofar c.step.new.out) c.args.m.now c.loop-step.m c.step.new.self
+    c.loop-step-test.true c.loop-step.invariant.runs c.in-ReadFault.ensures.changes
 
 pub returns-in-ReadFault-clause-calls : goal.returns-in-ReadFault-clause-calls
 returns-in-ReadFault-clause-calls g c =
     ran_then g.I.Source.did g.O.Sink.did c.args.input.now c.loop-step.input c.step.new.input c.args.out.now c.loop-step.out c.step.new.out (Some Input)
-        c.loop-step.invariant.calls c.in-ReadFault.ensures.calls
+    c.loop-step.invariant.calls c.in-ReadFault.ensures.calls
 
 pub returns-in-WriteFault-clause-runs : goal.returns-in-WriteFault-clause-runs
 returns-in-WriteFault-clause-runs g c =
     write_fault_told c.args.budget c.loop-step._step (g.I.Source.left c.args.input.now) (g.I.Source.left c.loop-step.input) (g.I.Source.left c.step.new.input)
-        (g.O.Sink.sofar c.args.out.now) (g.O.Sink.sofar c.loop-step.out) (g.O.Sink.sofar c.step.new.out) c.args.m.now c.loop-step.m c.step.new.self
-        c.loop-step-test.true c.loop-step.invariant.runs c.in-WriteFault.ensures.changes
+    (g.O.Sink.sofar c.args.out.now) (g.O.Sink.sofar c.loop-step.out) (g.O.Sink.sofar c.step.new.out) c.args.m.now c.loop-step.m c.step.new.self
+    c.loop-step-test.true c.loop-step.invariant.runs c.in-WriteFault.ensures.changes
 
 pub returns-in-WriteFault-clause-calls : goal.returns-in-WriteFault-clause-calls
 returns-in-WriteFault-clause-calls g c =
     ran_then g.I.Source.did g.O.Sink.did c.args.input.now c.loop-step.input c.step.new.input c.args.out.now c.loop-step.out c.step.new.out (Some Out)
-        c.loop-step.invariant.calls c.in-WriteFault.ensures.calls
+    c.loop-step.invariant.calls c.in-WriteFault.ensures.calls
 
 pub loop-step-preserved : goal.loop-step-preserved
 loop-step-preserved g c = record {
@@ -55,4 +55,4 @@ pub returns-clause-runs : goal.returns-clause-runs
 returns-clause-runs g c =
     let e : c.loop-step._step ≡ c.args.budget = omega arith in
     whole_told c.stop-2.result c.args.budget c.loop-step._step (g.I.Source.left c.args.input.now) (g.I.Source.left c.loop-step.input)
-        (g.O.Sink.sofar c.args.out.now) (g.O.Sink.sofar c.loop-step.out) c.args.m.now c.loop-step.m c.stop-2.ensures e c.loop-step.invariant.runs
+    (g.O.Sink.sofar c.args.out.now) (g.O.Sink.sofar c.loop-step.out) c.args.m.now c.loop-step.m c.stop-2.ensures e c.loop-step.invariant.runs

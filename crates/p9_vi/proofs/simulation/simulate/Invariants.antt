@@ -9,5 +9,5 @@ invariant-loop-step g l = record {
   runs : Told (RunsTo l._step l.fn.m l.m) (g.I.Source.left l.fn.input) (g.I.Source.left l.input) (g.O.Sink.sofar l.fn.out) (g.O.Sink.sofar l.out);
   unfailed_input : g.I.Source.faults l.input ≡ g.I.Source.faults l.fn.input;
   unfailed_out : g.O.Sink.faults l.out ≡ g.O.Sink.faults l.fn.out;
-  calls : StreamsRan g.I.Source.did g.O.Sink.did l.fn.input l.fn.out l.input l.out None
+  calls : StreamsRan g.I.Source.did g.O.Sink.did l.fn.input l.fn.out l.input l.out None;
 }

@@ -7,7 +7,7 @@ invariant-loop-done g l = record {
   within : l.done ≤ length l.room;
   taken : IfSome (g.I.Source.left l.fn.input) (λ bytes. HasTaken l.done bytes (g.I.Source.left l.input) l.fn.room l.room);
   unfailed : g.I.Source.faults l.input ≡ g.I.Source.faults l.fn.input;
-  calls : TakesRan g.I.Source.did l.fn.input l.input None
+  calls : TakesRan g.I.Source.did l.fn.input l.input None;
 }
 
 abbrev pub decreases-loop-done : goal.decreases-loop-done

@@ -7,7 +7,7 @@ invariant-loop-done g l = record {
   within : l.done ≤ length l.piece;
   put : IfSome (g.O.Sink.sofar l.fn.out) (λ bytes. g.O.Sink.sofar l.out ≡ Some (bytes ++ take l.done l.piece));
   unfailed : g.O.Sink.faults l.out ≡ g.O.Sink.faults l.fn.out;
-  calls : PutsRan g.O.Sink.did l.fn.out l.out None
+  calls : PutsRan g.O.Sink.did l.fn.out l.out None;
 }
 
 abbrev pub decreases-loop-done : goal.decreases-loop-done
