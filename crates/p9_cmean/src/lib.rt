@@ -33,5 +33,4 @@ pub struct Place {
 #[tactic(auto, using(crate::proofs::Exits::runs_of_exits))]
 pub fn runs_of_exits()
     ensures { RunsOfExits }
-{
-}
+{}

@@ -43,7 +43,6 @@ pub has_form : (file rest line text : List ℕ) → file ≡ opening ++ rest →
 has_form file rest line text f (inl w) l t = record { is_text = t; spelled = inr (f ∙ ap (λ r. opening ++ r) (w ∙ ap (λ r. r ++ 10 ∷ []) l)) }
 has_form file rest line text f (inr w) l t = record { is_text = t; spelled = inl (f ∙ ap (λ r. opening ++ r) (sym w.0 ∙ l)) }
 
-
 -- with or without a newline, the front is the text with the closing
 spelled_front : (file text : List ℕ) → HasForm file text → WithoutNewline file (opening ++ (text ++ closing))
 spelled_front file text h = elim h.spelled [

@@ -256,6 +256,7 @@ only_5 rest stack input text low whole h c at count =
   where
     apart_read : {a n b m : ℕ} → asks.Exits a n ≡ asks.Read b m → ⊥
     apart_read e = cc
+
     apart_write : {a n b m : ℕ} → asks.Exits a n ≡ asks.Write b m → ⊥
     apart_write e = cc
 

@@ -75,6 +75,7 @@ says_fault name held later before now r k = record {
   where
     six : ◌≡◌ {A = ℕ} 9 6 → ⊥
     six e = cc
+
     sixteen : ◌≡◌ {A = ℕ} 9 16 → ⊥
     sixteen e = cc
 
@@ -90,6 +91,7 @@ says_memory name held later before now r k = record {
   where
     six : ◌≡◌ {A = ℕ} 10 6 → ⊥
     six e = cc
+
     sixteen : ◌≡◌ {A = ℕ} 10 16 → ⊥
     sixteen e = cc
 
@@ -239,8 +241,7 @@ headline_built {F} held faults does means old new name file text printed files a
     let behind : StoreDid does did.0 (wrote b.5.0 (Ok tt) ∷ []) new = subst (λ c. StoreDid does did.0 c new) b.5.1 did.2 in
     let write = means did.0 (wrote b.5.0 (Ok tt)) behind.0 behind.1 in
     let mid_at : held did.0 ≡ Some files = read.0.0 ∙ at in
-    let now_at : IsSomeAnd (held behind.0) (λ now. (now output_name ≡ Some b.5.0) × OthersAsBefore files now output_name) = subst (λ (x : Option Held). Writes x (held behind.0) output_name b.5.0 (Ok tt)) mid_at write.0 in
-    (
+    let now_at : IsSomeAnd (held behind.0) (λ now. (now output_name ≡ Some b.5.0) × OthersAsBefore files now output_name) = subst (λ (x : Option Held). Writes x (held behind.0) output_name b.5.0 (Ok tt)) mid_at write.0 in (
       b.5.0,
       subst (λ (x : F). IsSomeAnd (held x) (λ now_held. now_held output_name ≡ Some b.5.0)) (sym behind.2) (first (held behind.0) b.5.0 files now_at),
       record { keeps = subst (λ (t : List ℕ). IsProgram t b.5.0) same_text b.5.2; printed = printed; ends = b.5.3; answers = refl },

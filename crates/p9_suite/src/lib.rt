@@ -9,6 +9,8 @@ mod form;
 mod report;
 mod run;
 mod simulate;
+#[cfg(test)]
+mod tests;
 mod top;
 
 pub use answer::Answer;
