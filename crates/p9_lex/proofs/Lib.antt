@@ -3,3 +3,9 @@ pub mod Cases
 pub mod QuotedLemmas
 pub mod TextLemmas
 pub mod ScanLemmas
+pub mod BlankSpelling
+pub mod NumberSpelling
+pub mod QuotedSpelling
+pub mod MarkSpelling
+pub mod PieceSpelling
+pub mod MadeLemmas

@@ -1,5 +1,5 @@
 -- A byte or escape between quotes takes at least one byte, and none that isn't there.
-use Rattle.std.proofs.Common.{◌≡◌, ℕ, zero, suc, ◌+◌, ◌*◌, ◌≤◌, List, [], ◌∷◌, length, Option, Some, None, Result, Ok, Err, IfOk, ltb, eqb, subst, arith}
+use Rattle.std.proofs.Common.{◌≡◌, ℕ, ◌+◌, ◌*◌, ◌≤◌, List, [], ◌∷◌, length, Option, Some, None, Result, Ok, Err, IfOk, ltb, eqb, subst, arith}
 use Rattle.p9_lex.specs.declared.broken.Break.{Break}
 use Rattle.p9_lex.specs.declared.quoted.Item.{Item}
 use Rattle.p9_lex.specs.Classes.{is_newline, is_digit_of, digit_value}

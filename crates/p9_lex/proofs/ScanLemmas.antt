@@ -1,5 +1,5 @@
 -- A file that is read piece by piece.
-use Rattle.std.proofs.Common.{◌≡◌, ℕ, zero, suc, ◌+◌, ◌-◌, ◌<◌, ◌≤◌, Bool, true, false, List, [], ◌∷◌, ◌++◌, length, take, drop, get_or, Option, Some, None, Result, Ok, Err, cond, leb, le-leb, refl, sym, ap, ◌∙◌, append_assoc, add-zero, subst, arith}
+use Rattle.std.proofs.Common.{◌≡◌, ℕ, zero, suc, ◌+◌, ◌-◌, ◌<◌, ◌≤◌, Bool, true, false, List, [], ◌∷◌, ◌++◌, length, take, drop, get_or, Some, Result, Ok, Err, cond, leb, le-leb, refl, sym, ap, ◌∙◌, append_assoc, add-zero, subst, arith}
 use Rattle.std.specs.Prelude.{count_by, is_some}
 use Rattle.std.proofs.lemmas.Bool.Decides.{nat_tests}
 use Rattle.std.proofs.lemmas.List.Sums.{sum_by-cons}
@@ -8,7 +8,6 @@ use Rattle.p9_lex.specs.declared.broken.Stop.{Stop}
 use Rattle.p9_lex.specs.declared.piece.Found.{Found}
 use Rattle.p9_lex.specs.declared.token.Dialect.{Dialect}
 use Rattle.p9_lex.specs.declared.token.Token.{Token}
-use Rattle.p9_lex.specs.declared.token.TokenKind.{TokenKind}
 use Rattle.p9_lex.specs.declared.token.TokenKind.TheVariants.{End}
 use Rattle.p9_lex.specs.declared.broken.PieceFault.{PieceFault}
 use Rattle.p9_lex.specs.declared.broken.PieceFault.TheVariants as piece_fault
@@ -27,7 +26,7 @@ lines_by : (c : Bool) (line n : ℕ) → cond c (line + 1) line + n ≡ line + (
 lines_by true line n = omega arith
 lines_by false line n = omega arith
 
-lines_past : (b line : ℕ) (s : List ℕ) → line_after b line + count_by is_newline s ≡ line + count_by is_newline (b ∷ s)
+pub lines_past : (b line : ℕ) (s : List ℕ) → line_after b line + count_by is_newline s ≡ line + count_by is_newline (b ∷ s)
 lines_past b line s =
     lines_by (is_newline b) line (count_by is_newline s)
     ∙ ap (λ n. line + n) (sym (sum_by-cons (λ x. cond (is_newline x) 1 0) b s))

@@ -1,5 +1,5 @@
 -- A slice's first element and the rest of it, as patterns and ranges give them.
-use Rattle.std.proofs.Common.{◌≡◌, ℕ, suc, ◌+◌, ◌-◌, ◌≤◌, List, [], ◌∷◌, length, take, drop, get_or, sym, ap, ◌∙◌, length-drop, arith}
+use Rattle.std.proofs.Common.{◌≡◌, ℕ, ◌-◌, ◌≤◌, List, [], ◌∷◌, length, take, drop, get_or, sym, ap, ◌∙◌, length-drop, arith}
 use Rattle.std.proofs.Math.Seq.{take-length}
 
 pub slice_rest : (n : ℕ) (s : List ℕ) → take (length s - n) (drop n s) ≡ drop n s

@@ -4,5 +4,8 @@ pub mod Blank
 pub mod Number
 pub mod Quoted
 pub mod Mark
+pub mod Keyword
 pub mod Piece
 pub mod Tokens
+pub mod Spelling
+pub mod Made

@@ -2,6 +2,7 @@
 ghost use Rattle.std.specs.Prelude.{◌≡◌, ◌+◌, ◌-◌, ◌≤◌, ◌++◌, true, false, [], length, count_by, IfOk, IfErr, OnOk};
 ghost use Rattle.p9_lex.specs.Broken.{IsFaultInside};
 ghost use Rattle.p9_lex.specs.Classes.{is_newline};
+ghost use Rattle.p9_lex.specs.Made.{AreTokens, HaveLines};
 ghost use Rattle.p9_lex.specs.Tokens.{kind_of, first_after, tokens_at, too_long, scan, limited, line_of, fault_of, lexed, IsStop, IsStopped, IsStopWithin, IsRefusal};
 
 use crate::broken::{PieceFault, Reason, Stop};
@@ -206,6 +207,11 @@ fn fault_of(bytes: &[u8], stop: Stop) -> LexFault
 /// The tokens of a file. `sources` and `marks` are empty, and `file` is 0.
 pub fn lex(alloc: Global, bytes: &[u8], dialect: Dialect) -> Result<Tokens, LexFault>
     ensures tokens { IfOk result (λ t. lexed dialect bytes.now ≡ Ok t.list.items) }
+
+    // One after the other they make the file, with what is passed over between them.
+    ensures made { IfOk result (λ t. AreTokens dialect 0 true false bytes.now t.list.items) }
+    ensures lines { IfOk result (λ t. HaveLines bytes.now t.list.items) }
+
     ensures no_sources { IfOk result (λ t. t.sources.items ≡ []) }
     ensures no_marks { IfOk result (λ t. t.marks.items ≡ []) }
     ensures refused { IfErr result (λ e. IsRefusal dialect bytes.now e) }

@@ -222,3 +222,35 @@ fn files_give_tokens_and_refusals(rt: HostRuntime) -> Result<(), Fail> {
     }
     Ok(())
 }
+
+#[test]
+fn keywords_are_words(rt: HostRuntime) -> Result<(), Fail> {
+    let words =
+        b"auto break case char const continue default do double else enum extern float for goto if int long register return short signed sizeof static struct switch typedef union unsigned void volatile while";
+    let wanted =
+        "wauto@0-4:1^ wbreak@5-10:1 wcase@11-15:1 wchar@16-20:1 wconst@21-26:1 wcontinue@27-35:1 wdefault@36-43:1 wdo@44-46:1 wdouble@47-53:1 welse@54-58:1 wenum@59-63:1 wextern@64-70:1 wfloat@71-76:1 wfor@77-80:1 wgoto@81-85:1 wif@86-88:1 wint@89-92:1 wlong@93-97:1 wregister@98-106:1 wreturn@107-113:1 wshort@114-119:1 wsigned@120-126:1 wsizeof@127-133:1 wstatic@134-140:1 wstruct@141-147:1 wswitch@148-154:1 wtypedef@155-162:1 wunion@163-168:1 wunsigned@169-177:1 wvoid@178-182:1 wvolatile@183-191:1 wwhile@192-197:1 end@197-197:1+";
+    let answer = answer_text(rt.alloc(), words, Dialect::C)?;
+    assert_eq!(rt; answer.as_str(), wanted);
+    Ok(())
+}
+
+#[test]
+fn limits_are_exact(rt: HostRuntime) -> Result<(), Fail> {
+    let alloc = rt.alloc();
+    let mut name = vec![in alloc; b'a'; 255]?;
+    assert!(rt; lex(alloc, name.as_slice(), Dialect::C).is_ok());
+    name.push(b'a')?;
+    let answer = answer_text(alloc, name.as_slice(), Dialect::C)?;
+    assert_eq!(rt; answer.as_str(), "1 BadByte 255 in 1");
+
+    let mut file = vec![in alloc; b' '; 16_777_214]?;
+    file.extend_from_slice(b"a;")?;
+    assert!(rt; lex(alloc, file.as_slice(), Dialect::C).is_ok());
+    file.push(b' ')?;
+    let answer = answer_text(alloc, file.as_slice(), Dialect::C)?;
+    assert_eq!(rt; answer.as_str(), "1 BadByte 16777216 in 1");
+    file.extend_from_slice(b"@")?;
+    let answer = answer_text(alloc, file.as_slice(), Dialect::C)?;
+    assert_eq!(rt; answer.as_str(), "1 BadByte 16777216 in 1");
+    Ok(())
+}

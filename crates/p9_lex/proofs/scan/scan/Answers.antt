@@ -1,4 +1,4 @@
-use Rattle.std.proofs.Common.{◌≡◌, ◌+◌, ◌-◌, ◌≤◌, true, false, length, take, drop, get_or, ◌++◌, is_some, length-drop, length-take, Ok, Err, sym, ap, ◌∙◌, arith}
+use Rattle.std.proofs.Common.{◌+◌, ◌-◌, ◌≤◌, true, false, length, take, drop, ◌++◌, is_some, length-drop, length-take, Err, sym, ap, ◌∙◌, arith}
 use Rattle.p9_lex.specs.Tokens.{scan, in_front, first_after, tokens_at}
 use Rattle.p9_lex.proofs.Slices.{slice_front, slice_rest}
 use Rattle.p9_lex.proofs.ScanLemmas.{scan_step, scan_stopped, scan_past, scan_end}
