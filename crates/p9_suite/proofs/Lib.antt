@@ -6,3 +6,4 @@ pub mod RunLemmas
 pub mod Simulations
 pub mod Exited
 pub mod SuiteLemmas
+pub mod Ordered

@@ -1,7 +1,7 @@
 -- What the suite does for a command line.
-use Rattle.std.specs.Prelude.{◌≡◌, ◌≢◌, ◌↔◌, ◌⊎◌, ℕ, List, [], ◌∷◌, Option, Some, None, IfSome, IsSomeAnd}
+use Rattle.std.specs.Prelude.{◌≡◌, ◌≢◌, ◌↔◌, ◌⊎◌, ℕ, List, [], ◌∷◌, Option, Some, None, IfSome, IsSomeAnd, if◌then◌else◌, ◌==◌}
 use Rattle.p9_base.specs.Outside.{Held, Rose, OthersAsBefore, TakeCall, PutCall, FileCall}
-use Rattle.p9_base.specs.Calls.{Objects, Doing}
+use Rattle.p9_base.specs.Calls.{Call, Failing, Store, Objects, Doing, Did, CallsEnd}
 use Rattle.p9_cmean.specs.Laws.{exits_with}
 use Rattle.p9_suite.specs.declared.answer.Answer.{Answer}
 use Rattle.p9_suite.specs.declared.answer.Answer.TheVariants.{Ended, Usage}
@@ -19,6 +19,14 @@ CommandDoes doing old new (Some (Run name)) answer = RunDoes doing old new name 
 
 abbrev pub SuiteDoes : {I O F : Type 0} → Doing I O F → (old new : Objects I O F) → (words : List (List ℕ)) → Answer → Type 0
 SuiteDoes doing old new words answer = CommandDoes doing old new (command_of words) answer
+
+-- the object whose call failed, at the statuses that say so
+abbrev pub failing_at : ℕ → Option Failing
+failing_at s = if s == 9 then Some Store else None
+
+-- calls were made of which none failed, or only the last, and that as the status says
+abbrev pub CallsMade : {I O F : Type 0} → Doing I O F → (old new : Objects I O F) → (s : ℕ) → Type 0
+CallsMade doing old new s = (calls : List Call) × Did doing old calls new × CallsEnd calls (failing_at s)
 
 -- what a call on each of the three objects is, and the three together
 abbrev pub doing : {I O F : Type 0} → (I → TakeCall → I → Type 0) → (O → PutCall → O → Type 0) → (F → FileCall → F → Type 0) → Doing I O F

@@ -17,8 +17,8 @@ fn output_name(alloc: Global) -> Result<Name, NoMemory>
     copied(alloc, b"v.out")
 }
 
-#[tactic(auto, using(crate::proofs::RunLemmas::built_no_memory, crate::proofs::RunLemmas::built_ended, crate::proofs::RunLemmas::built_without_memory, crate::proofs::RunLemmas::built_fault, crate::proofs::RunLemmas::built_unwritten))]
 // Compiles, writes and runs the program that ends with the text.
+#[tactic(auto, using(crate::proofs::RunLemmas::built_no_memory))]
 fn build_and_run<F: Files>(alloc: Global, text: &[u8], files: &mut F) -> Answer
     requires { IsText text.now }
     ensures { StoreBuilds F.did files.old files.new text.now result }
@@ -40,7 +40,7 @@ fn build_and_run<F: Files>(alloc: Global, text: &[u8], files: &mut F) -> Answer
 }
 
 /// `run` of one file.
-#[tactic(auto, using(crate::proofs::RunLemmas::ran_no_memory, crate::proofs::RunLemmas::ran_absent, crate::proofs::RunLemmas::ran_fault, crate::proofs::RunLemmas::ran_unread, crate::proofs::RunLemmas::ran_not_built, crate::proofs::RunLemmas::ran_built))]
+#[tactic(auto, using(crate::proofs::RunLemmas::ran_no_memory, crate::proofs::RunLemmas::ran_absent, crate::proofs::RunLemmas::ran_fault, crate::proofs::RunLemmas::ran_unread))]
 pub(crate) fn run<F: Files>(alloc: Global, name: &Name, files: &mut F) -> Answer
     ensures { StoreRuns F.did files.old files.new name.now result }
 {

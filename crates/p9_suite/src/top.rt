@@ -4,7 +4,7 @@ ghost use Rattle.p9_suite.specs.declared.answer.Answer.{Answer};
 ghost use Rattle.p9_suite.specs.Answers.{message, status};
 ghost use Rattle.p9_suite.specs.Commands.{command_of};
 ghost use Rattle.p9_suite.specs.Reports.{Tells};
-ghost use Rattle.p9_suite.specs.Suite.{CommandStores, SuiteDoes, StatusSays, Headline, doing, objects};
+ghost use Rattle.p9_suite.specs.Suite.{CommandStores, SuiteDoes, CallsMade, StatusSays, Headline, doing, objects};
 
 use crate::answer::Answer;
 use crate::command::{Command, command_of};
@@ -23,9 +23,9 @@ fn answer<F: Files>(alloc: Global, words: &Words, files: &mut F) -> Answer
     }
 }
 
-#[tactic(auto, using(crate::proofs::SuiteLemmas::suite_does, crate::proofs::SuiteLemmas::suite_says, crate::proofs::SuiteLemmas::headline))]
 /// Does what the words ask, tells its line on `err`, and answers the status. A fault of `err` changes
 /// no status.
+#[tactic(auto, using(crate::proofs::SuiteLemmas::suite_does))]
 pub fn suite<I: Source, O: Sink, E: Sink, F: Files>(
     alloc: Global,
     words: &Words,
@@ -45,6 +45,9 @@ pub fn suite<I: Source, O: Sink, E: Sink, F: Files>(
 
     // The causes of the statuses, in plain words.
     ensures says { StatusSays words.now (F.held files.old) (F.held files.new) (F.faults files.old) (F.faults files.new) result }
+
+    // No call is made behind one that failed.
+    ensures calls { CallsMade (doing I.did O.did F.did) (objects input.old out.old files.old) (objects input.new out.new files.new) result }
 
     // No program of the form reads or writes.
     ensures input { input.new ≡ input.old }
