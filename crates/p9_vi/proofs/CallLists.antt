@@ -1,5 +1,5 @@
 -- Lists of calls: none, one more, and one list after another.
-use Rattle.std.proofs.Common.{◌≡◌, ℕ, List, [], ◌∷◌, ◌++◌, map, Option, Some, None, refl, sym, ◌∙◌, subst}
+use Rattle.std.proofs.Common.{◌≡◌, List, [], ◌∷◌, ◌++◌, map, Option, Some, None, refl, sym, subst}
 use Rattle.std.proofs.lemmas.List.{map-append, append_assoc}
 use Rattle.p9_base.specs.Outside.{TakeCall, PutCall}
 use Rattle.p9_base.specs.Calls.{StreamCall, OnInput, OnOut, Failing, StreamsDid, StreamsEnd, stream_failure}

@@ -1,5 +1,5 @@
 -- Rooms and pieces that are filled and put a part at a time.
-use Rattle.std.proofs.Common.{◌≡◌, ◌≤◌, ◌<◌, ℕ, ◌+◌, ◌-◌, List, [], ◌++◌, length, take, drop, Option, Some, None, IfSome, sym, ◌∙◌, ap, subst, arith, append_assoc, append-nil, length-append, length-drop, refl, min}
+use Rattle.std.proofs.Common.{◌≡◌, ◌≤◌, ◌<◌, ℕ, ◌+◌, ◌-◌, List, [], ◌++◌, length, take, drop, Option, Some, None, IfSome, sym, ◌∙◌, ap, subst, arith, append_assoc, append-nil, length-append, length-drop, min}
 use Rattle.std.proofs.lemmas.List.{take-append-drop, drop-drop, take_rest, length-take-le, drop-append-le}
 use Rattle.std.proofs.Math.Seq.{take-append-add, take-append_seam, drop-append_seam}
 use Rattle.std.proofs.Math.ListN.{drop_of_length-le}
@@ -8,7 +8,7 @@ use Rattle.p9_base.specs.declared.outside.Took as took
 use Rattle.p9_base.specs.declared.outside.Put as put
 use Rattle.p9_r3k.specs.Memory.{over}
 use Rattle.p9_vi.specs.Streams.{HasTaken, Fills}
-use Rattle.p9_vi.specs.Steps.{FillsPart, PartChanges}
+use Rattle.p9_vi.specs.Steps.{FillsPart}
 use borrow.Rule.Slice.PartMut.{put_mid}
 
 pub take_on : (d n : ℕ) (bytes : List ℕ) → d ≤ length bytes → take d bytes ++ take n (drop d bytes) ≡ take (d + n) bytes

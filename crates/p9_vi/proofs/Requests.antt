@@ -1,11 +1,11 @@
 -- What each system call leaves.
-use Rattle.std.proofs.Common.{ℕ, ◌≡◌, List, ◌++◌, length, take, drop, min, Option, Some, true, false, Bool, refl, subst}
+use Rattle.std.proofs.Common.{ℕ, ◌≡◌, List, ◌++◌, length, take, drop, min, Option, true, false, refl, subst}
 use Rattle.p9_r3k.specs.declared.halt.Asked.{Asked}
 use Rattle.p9_r3k.specs.declared.halt.Asked.TheVariants as asks
 use Rattle.p9_r3k.specs.declared.halt.HaltCause.{HaltCause}
 use Rattle.p9_r3k.specs.declared.halt.Ending.TheVariants.{Exited}
 use Rattle.p9_r3k.specs.Memory.{Core, with_bytes, bytes_from}
-use Rattle.p9_r3k.specs.Machine.{State, state, called, answered, advanced, halted}
+use Rattle.p9_r3k.specs.Machine.{state, called, answered, advanced, halted}
 use Rattle.p9_vi.specs.declared.stop.Stepped.TheVariants.{Done, ReadFault, WriteFault}
 use Rattle.p9_vi.specs.Stops.{Told}
 use Rattle.p9_vi.specs.Steps.{Reads, PutsPiece, Calls}

@@ -1,5 +1,5 @@
 -- Steps and runs.
-use Rattle.std.proofs.Common.{ℕ, zero, suc, ◌+◌, ◌-◌, ◌≡◌, ◌≤◌, ◌<◌, List, ◌++◌, Option, Some, None, refl, sym, subst, ◌∙◌, ap, Bool, true, false, Result, Ok, Err, arith}
+use Rattle.std.proofs.Common.{ℕ, zero, suc, ◌+◌, ◌-◌, ◌≡◌, ◌≤◌, ◌<◌, List, Option, refl, sym, subst, ◌∙◌, ap, Bool, Result, Ok, Err, arith}
 use Rattle.p9_r3k.specs.declared.inst.Inst.{Inst}
 use Rattle.p9_r3k.specs.declared.halt.Asked.{Asked}
 use Rattle.p9_r3k.specs.declared.halt.HaltCause.{HaltCause}
@@ -13,7 +13,7 @@ use Rattle.p9_r3k.specs.Machine.{State, state, step, run, going, executed, acted
 use Rattle.p9_vi.specs.declared.stop.Stop.{Stop as Stopped}
 use Rattle.p9_vi.specs.declared.stop.Stepped.{Stepped}
 use Rattle.p9_vi.specs.declared.stop.Stepped.TheVariants.{Done, ReadFault, WriteFault}
-use Rattle.p9_vi.specs.Stops.{IsAtCall, ReadFails, WriteFails, RunsWhole, RunsToRead, RunsToWrite, Runs, Told, stop_of}
+use Rattle.p9_vi.specs.Stops.{IsAtCall, ReadFails, WriteFails, RunsToRead, RunsToWrite, Runs, Told, stop_of}
 use Rattle.p9_vi.specs.Steps.{Calls, CallKeeps, Steps, StepStands}
 
 -- One step

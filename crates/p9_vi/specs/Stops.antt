@@ -1,5 +1,5 @@
 -- How a simulation of at most n instructions stops.
-use Rattle.std.specs.Prelude.{◌≡◌, ◌<◌, ◌≤◌, ℕ, List, ◌++◌, length, take, drop, Option, Some, None, Result, Ok}
+use Rattle.std.specs.Prelude.{◌≡◌, ◌<◌, ◌≤◌, ℕ, List, ◌++◌, length, take, drop, Option, Some, None, Ok}
 use Rattle.p9_base.specs.Outside.{Rose}
 use Rattle.p9_base.specs.Calls.{Failing, Input, Out}
 use Rattle.p9_r3k.specs.declared.inst.Inst.{Inst}
@@ -10,7 +10,7 @@ use Rattle.p9_r3k.specs.declared.halt.Asked.{Asked}
 use Rattle.p9_r3k.specs.declared.halt.Asked.TheVariants as asks
 use Rattle.p9_r3k.specs.Memory.{Core, bytes_from, with_bytes}
 use Rattle.p9_r3k.specs.Effects.{effect_of}
-use Rattle.p9_r3k.specs.Machine.{State, state, run, fetched, asked}
+use Rattle.p9_r3k.specs.Machine.{state, run, fetched, asked}
 use Rattle.p9_vi.specs.declared.stop.Stop.{Stop}
 use Rattle.p9_vi.specs.declared.stop.Stop.TheVariants as stops
 use Rattle.p9_vi.specs.Run.{IsExited}

@@ -1,5 +1,5 @@
 -- Whole rooms and whole pieces, by as many takes and puts as they need, and the calls that these are.
-use Rattle.std.specs.Prelude.{◌≡◌, ◌<◌, ◌≤◌, ℕ, ◌-◌, min, List, [], ◌∷◌, ◌++◌, length, take, drop, map, Option, Some, None, IfSome, Bool, true, false}
+use Rattle.std.specs.Prelude.{◌≡◌, ◌<◌, ◌≤◌, ℕ, min, List, [], ◌∷◌, ◌++◌, length, take, drop, map, Option, Some, None, IfSome, Bool, true, false}
 use Rattle.p9_base.specs.Outside.{TakeCall, PutCall, Rose}
 use Rattle.p9_base.specs.Calls.{StreamCall, OnInput, OnOut, Failing, Input, Out, StreamsDid, StreamsEnd}
 

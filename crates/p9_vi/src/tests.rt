@@ -79,55 +79,90 @@ fn end_of(
     }))
 }
 
+// A program of at most four instructions, and how it ends.
+#[derive(Clone, Copy)]
+struct ShortProgram {
+    size: usize,
+    words: [u32; 4],
+    stop: Stop,
+}
+
+fn program(size: usize, words: [u32; 4], stop: Stop) -> ShortProgram {
+    ShortProgram { size, words, stop }
+}
+
+fn halts(cause: HaltCause, pc: u32) -> Stop {
+    Stop::Halt(cause, pc)
+}
+
 #[test]
 fn programs_stop(rt: HostRuntime) -> Result<(), Fail> {
     let alloc = rt.alloc();
-    let cases: [(&[u32], Stop); 16] = [
-        (&[0x27bd_fff0, 0x2401_0008, 0x0000_000c], Stop::Exit),
-        (
-            &[0x27bd_fff0, 0x2401_0009, 0x0000_000c],
-            Stop::Halt(HaltCause::BadCall(9), 0x1028),
+    let programs = [
+        program(3, [0x27bd_fff0, 0x2401_0008, 0x0000_000c, 0], Stop::Exit),
+        program(
+            3,
+            [0x27bd_fff0, 0x2401_0009, 0x0000_000c, 0],
+            halts(HaltCause::BadCall(9), 0x1028),
         ),
-        (
-            &[0x8fa1_fffc, 0x0020_0821],
-            Stop::Halt(HaltCause::LoadHazard, 0x1024),
+        program(
+            2,
+            [0x8fa1_fffc, 0x0020_0821, 0, 0],
+            halts(HaltCause::LoadHazard, 0x1024),
         ),
-        (
-            &[0x0000_0812, 0x0000_0000, 0x0000_0018],
-            Stop::Halt(HaltCause::HiLoHazard, 0x1028),
+        program(
+            3,
+            [0x0000_0812, 0, 0x0000_0018, 0],
+            halts(HaltCause::HiLoHazard, 0x1028),
         ),
-        (
-            &[0x0800_0408, 0x0800_0408],
-            Stop::Halt(HaltCause::SlotBranch, 0x1024),
+        program(
+            2,
+            [0x0800_0408, 0x0800_0408, 0, 0],
+            halts(HaltCause::SlotBranch, 0x1024),
         ),
-        (&[0x8c01_0000], Stop::Halt(HaltCause::BadAddress(0), 0x1020)),
-        (&[0x0000_001a], Stop::Halt(HaltCause::Divide, 0x1020)),
-        (&[0x0000_0000], Stop::Halt(HaltCause::Fetch, 0x1024)),
-        (&[0xffff_ffff], Stop::Halt(HaltCause::BadWord, 0x1020)),
-        (&[0x8c01_0002], Stop::Halt(HaltCause::Misaligned(2), 0x1020)),
-        (&[0xa401_0001], Stop::Halt(HaltCause::Misaligned(1), 0x1020)),
-        (
-            &[0x3c01_7fff, 0x3421_ffff, 0x2021_0001],
-            Stop::Halt(HaltCause::Overflow, 0x1028),
+        program(
+            1,
+            [0x8c01_0000, 0, 0, 0],
+            halts(HaltCause::BadAddress(0), 0x1020),
         ),
-        (&[0x0000_000d], Stop::Halt(HaltCause::Break, 0x1020)),
-        // a store into the text
-        (
-            &[0xac00_1020],
-            Stop::Halt(HaltCause::BadAddress(0x1020), 0x1020),
+        program(1, [0x0000_001a, 0, 0, 0], halts(HaltCause::Divide, 0x1020)),
+        program(1, [0, 0, 0, 0], halts(HaltCause::Fetch, 0x1024)),
+        program(1, [0xffff_ffff, 0, 0, 0], halts(HaltCause::BadWord, 0x1020)),
+        program(
+            1,
+            [0x8c01_0002, 0, 0, 0],
+            halts(HaltCause::Misaligned(2), 0x1020),
         ),
-        // a load that a write follows is not read, and a jump back to the start
-        (&[0x8fa1_fffc, 0x0800_0408, 0x2401_0001], Stop::Budget),
-        // BLTZAL that isn't taken links: JR R31 comes back to itself after its slot
-        (
-            &[0x0410_0002, 0x0000_0000, 0x03e0_0008, 0x0000_0000],
-            Stop::Budget,
+        program(
+            1,
+            [0xa401_0001, 0, 0, 0],
+            halts(HaltCause::Misaligned(1), 0x1020),
         ),
+        program(
+            3,
+            [0x3c01_7fff, 0x3421_ffff, 0x2021_0001, 0],
+            halts(HaltCause::Overflow, 0x1028),
+        ),
+        program(1, [0x0000_000d, 0, 0, 0], halts(HaltCause::Break, 0x1020)),
+        // A store into the text.
+        program(
+            1,
+            [0xac00_1020, 0, 0, 0],
+            halts(HaltCause::BadAddress(0x1020), 0x1020),
+        ),
+        // A load's register is written in the slot of a jump back, and not read.
+        program(3, [0x8fa1_fffc, 0x0800_0408, 0x2401_0001, 0], Stop::Budget),
+        // BLTZAL that isn't taken links: JR R31 goes to itself after its slot.
+        program(4, [0x0410_0002, 0, 0x03e0_0008, 0], Stop::Budget),
     ];
-    for (i, (words, stop)) in cases.iter().enumerate() {
-        let text = text_of(alloc, 0, words)?;
-        let end = end_of(alloc, text, b"", b"", &[])?.ok_or("bad image")?;
-        assert_eq!(rt; end.stop, *stop, "at {i}");
+    for i in 0..programs.len() {
+        let program = programs[i];
+        let words = program.words;
+        if program.size <= 4 {
+            let text = text_of(alloc, 0, &words[..program.size])?;
+            let end = end_of(alloc, text, b"", b"", &[])?.ok_or("bad image")?;
+            assert_eq!(rt; end.stop, program.stop, "at {i}");
+        }
     }
     Ok(())
 }
@@ -150,37 +185,88 @@ fn one_call(number: u32, descriptor: u32, at: u32, count: u32) -> [u32; 12] {
     ]
 }
 
+// A system call of `one_call`, how its program ends, and the bytes of the output as a number.
+#[derive(Clone, Copy)]
+struct CallCase {
+    words: [u32; 12],
+    stop: Stop,
+    output: u32,
+}
+
+fn call(number: u32, descriptor: u32, at: u32, count: u32, stop: Stop, output: u32) -> CallCase {
+    CallCase {
+        words: one_call(number, descriptor, at, count),
+        stop,
+        output,
+    }
+}
+
+fn number_of(bytes: &[u8]) -> u32 {
+    let mut number = 0u32;
+    for b in bytes {
+        number = number.wrapping_mul(256).wrapping_add(u32::from(*b));
+    }
+    number
+}
+
 #[test]
 fn system_calls_meet_their_edges(rt: HostRuntime) -> Result<(), Fail> {
     let alloc = rt.alloc();
-    let halts = |a| Stop::Halt(HaltCause::BadAddress(a), 0x1040);
-    let cases: [([u32; 4], Stop, &[u8]); 13] = [
-        // a write of the text's first bytes, of none, of a negative count, to a wrong descriptor
-        ([20, 1, 0x1020, 3], Stop::Exit, b"\x27\xbd\xff"),
-        ([20, 1, 0, 0], Stop::Exit, b""),
-        ([20, 1, 0x1020, 0xffff], Stop::Exit, b""),
-        ([20, 2, 0x1020, 3], Stop::Exit, b""),
-        // a write up to the data's end, and one byte further
-        ([20, 1, 0x2003, 2], Stop::Exit, b"de"),
-        ([20, 1, 0x2003, 3], halts(0x2005), b""),
-        // a write past the text's end
-        ([20, 1, 0x104e, 3], halts(0x1050), b""),
-        // a read of none anywhere, of a negative count, from a wrong descriptor
-        ([15, 0, 0, 0], Stop::Exit, b""),
-        ([15, 0, 0x2000, 0xffff], Stop::Exit, b""),
-        ([15, 1, 0x2000, 1], Stop::Exit, b""),
-        // a room up to the data's end, one byte further, and in the text
-        ([15, 0, 0x2003, 2], Stop::Exit, b""),
-        ([15, 0, 0x2003, 3], halts(0x2005), b""),
-        ([15, 0, 0x1020, 1], halts(0x1020), b""),
+    let pc = 0x1040;
+    let calls = [
+        // A write of the text's first bytes, of none, of a negative count, to a wrong descriptor.
+        call(20, 1, 0x1020, 3, Stop::Exit, 0x27_bdff),
+        call(20, 1, 0, 0, Stop::Exit, 0),
+        call(20, 1, 0x1020, 0xffff, Stop::Exit, 0),
+        call(20, 2, 0x1020, 3, Stop::Exit, 0),
+        // A write up to the data's end, one byte further, and past the text's end.
+        call(20, 1, 0x2003, 2, Stop::Exit, 0x6465),
+        call(
+            20,
+            1,
+            0x2003,
+            3,
+            halts(HaltCause::BadAddress(0x2005), pc),
+            0,
+        ),
+        call(
+            20,
+            1,
+            0x104e,
+            3,
+            halts(HaltCause::BadAddress(0x1050), pc),
+            0,
+        ),
+        // A read of none, of a negative count, from a wrong descriptor.
+        call(15, 0, 0, 0, Stop::Exit, 0),
+        call(15, 0, 0x2000, 0xffff, Stop::Exit, 0),
+        call(15, 1, 0x2000, 1, Stop::Exit, 0),
+        // A room up to the data's end, one byte further, and in the text.
+        call(15, 0, 0x2003, 2, Stop::Exit, 0),
+        call(
+            15,
+            0,
+            0x2003,
+            3,
+            halts(HaltCause::BadAddress(0x2005), pc),
+            0,
+        ),
+        call(
+            15,
+            0,
+            0x1020,
+            1,
+            halts(HaltCause::BadAddress(0x1020), pc),
+            0,
+        ),
     ];
-    for (i, ([number, descriptor, at, count], stop, output)) in cases.iter().enumerate() {
-        let words = one_call(*number, *descriptor, *at, *count);
-        let text = text_of(alloc, 0, &words)?;
+    for i in 0..calls.len() {
+        let call = calls[i];
+        let text = text_of(alloc, 0, &call.words)?;
         let end = end_of(alloc, text, b"abcde", b"xyz", &[])?.ok_or("bad image")?;
-        assert_eq!(rt; end.stop, *stop, "at {i}");
-        assert_eq!(rt; end.output.as_slice(), *output, "at {i}");
-        assert_eq!(rt; end.text.as_slice(), b"".as_slice(), "at {i}");
+        assert_eq!(rt; end.stop, call.stop, "at {i}");
+        assert_eq!(rt; number_of(&end.output), call.output, "at {i}");
+        assert_eq!(rt; end.text.len(), 0, "at {i}");
     }
     Ok(())
 }

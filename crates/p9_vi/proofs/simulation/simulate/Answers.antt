@@ -1,4 +1,4 @@
-use Rattle.std.proofs.Common.{ℕ, ◌≡◌, ◌∙◌, None, Some, refl, arith}
+use Rattle.std.proofs.Common.{◌≡◌, ◌∙◌, None, Some, refl, arith}
 use Rattle.p9_base.specs.Calls.{Input, Out}
 use Rattle.p9_vi.proofs.CallLists.{ran_none, ran_then}
 use Rattle.p9_vi.proofs.Stepping.{runs_none, runs_more, whole_told, ended_told, read_fault_told, write_fault_told}
