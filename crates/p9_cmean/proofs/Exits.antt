@@ -1,5 +1,5 @@
 -- The run of the program that only calls `exits`.
-use Rattle.std.proofs.Common.{◌≡◌, ◌≢◌, ◌<◌, ◌≤◌, ℕ, ◌+◌, zero, suc, List, [], ◌∷◌, ◌++◌, map, All, refl, ap, arith}
+use Rattle.std.proofs.Common.{◌≡◌, ◌≢◌, ◌<◌, ◌≤◌, ℕ, zero, suc, List, [], ◌∷◌, ◌++◌, map, All, refl, ap, arith}
 use Rattle.p9_cmean.specs.Objects.{Number}
 use Rattle.p9_cmean.specs.Calls.{Text, characters}
 use Rattle.p9_cmean.specs.Run.{Ended, Out, crun, call_place, ends_with}

@@ -1,5 +1,5 @@
 -- The run of the program that only calls `exits`.
-use Rattle.std.specs.Prelude.{◌≡◌, ◌≢◌, ◌<◌, ◌≤◌, ℕ, ◌+◌, List, [], ◌∷◌, All}
+use Rattle.std.specs.Prelude.{◌≡◌, ◌≢◌, ◌<◌, ◌≤◌, ℕ, List, [], ◌∷◌, All}
 use Rattle.p9_cmean.specs.Run.{Module, Exits, Ended, Out, crun}
 
 -- the program whose `main` is one call of `exits` on a text

@@ -1,6 +1,6 @@
 -- What the suite's answers say of its words, its store and its status.
 use Rattle.std.proofs.Common.{◌≡◌, ◌≢◌, ◌⊎◌, ℕ, List, [], ◌∷◌, Option, Some, None, IfSome, IsSomeAnd, Result, Ok, Err, inl, inr, refl, sym, ap, ◌∙◌, subst}
-use Rattle.p9_base.specs.Outside.{Held, Rose, Answers, OthersAsBefore, Reads, Writes, ReadCause, WriteCause, TakeCall, PutCall, FileCall, ReadCall, WriteCall, FileMeans}
+use Rattle.p9_base.specs.Outside.{Held, Rose, Answers, OthersAsBefore, Reads, Writes, ReadCause, WriteCause, TakeCall, PutCall, FileCall, ReadCall, FileMeans}
 use Rattle.p9_base.specs.declared.outside.Got.{Got}
 use Rattle.p9_base.specs.declared.outside.Got.TheVariants as got
 use Rattle.p9_base.specs.declared.outside.FileFault.{FileFault}
@@ -9,7 +9,6 @@ use Rattle.p9_suite.specs.declared.answer.Answer.{Answer}
 use Rattle.p9_suite.specs.declared.answer.Answer.TheVariants.{Ended, Usage, Absent, StoreFault, Memory, NotBuilt}
 use Rattle.p9_suite.specs.Answers.{status}
 use Rattle.p9_suite.specs.Form.{HasForm, HasNoForm}
-use Rattle.p9_suite.specs.Ends.{EndsWith}
 use Rattle.p9_suite.specs.Commands.{Command, Run, command_of}
 use Rattle.p9_suite.specs.RunCommand.{IsProgram, output_name, read_file, wrote, StoreDid, StoreRuns, ReadsAndBuilds, BuildCalls, RunCalls}
 use Rattle.p9_suite.specs.Suite.{CommandStores, StatusOfFile, StatusSays, IsRun, Headline, CommandDoes, SuiteDoes, doing, objects}
