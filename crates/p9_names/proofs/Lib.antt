@@ -5,3 +5,4 @@ pub mod Chosen
 pub mod Agreed
 pub mod Steps
 pub mod Answering
+pub mod Exactness

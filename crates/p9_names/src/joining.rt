@@ -1,5 +1,7 @@
 // Joining modules with the built-in one.
-ghost use Rattle.std.specs.Prelude.{◌≡◌, ◌<◌, ◌^◌, All, length, OnOk, IfOk, IfErr};
+ghost use Rattle.std.specs.Prelude.{◌≡◌, ◌≢◌, ◌⊎◌, ◌<◌, ◌^◌, All, length, Err, IsOk, OnOk, IfOk, IfErr};
+ghost use Rattle.p9_names.specs.declared.table.LinkFault.{LinkFault};
+ghost use Rattle.p9_names.specs.declared.table.LinkFault.TheVariants.{Memory};
 ghost use Rattle.p9_abs.specs.Validity.{IsValid};
 ghost use Rattle.p9_names.specs.Linking.{HasMain, AllResolved, IsTable};
 ghost use Rattle.p9_names.specs.Passes.{AreLinkable, globals_of, IsMainFault, IsUseFault};
@@ -54,9 +56,9 @@ fn check_uses(alloc: Global, linked: &Linked, defs: &IndexMap<Name, Def>) -> Res
     }
 }
 
+// Joins the modules with the built-in one.
 #[tactic(auto, using(crate::proofs::Answering::linkable_all, crate::proofs::Answering::all_join, crate::proofs::Answering::table_of_all))]
-/// Joins the modules with the built-in one. Want of memory may come at any place.
-pub fn resolve(alloc: Global, modules: &Vec<AModule>) -> Result<Table, LinkFault>
+fn join(alloc: Global, modules: &Vec<AModule>) -> Result<Table, LinkFault>
     requires valid { All IsValid modules.now.items }
     requires count { length modules.now.items < 2 ^ 32 }
     requires small { All (λ m. length m.symbols < 2 ^ 32) modules.now.items }
@@ -72,4 +74,20 @@ pub fn resolve(alloc: Global, modules: &Vec<AModule>) -> Result<Table, LinkFault
     check_uses(alloc, &linked, &defs)?;
     check_agreement(alloc, &linked, &globals)?;
     Ok(Table { defs })
+}
+
+/// Joins the modules with the built-in one. Want of memory may come at any place.
+pub fn resolve(alloc: Global, modules: &Vec<AModule>) -> Result<Table, LinkFault>
+    requires valid { All IsValid modules.now.items }
+    requires count { length modules.now.items < 2 ^ 32 }
+    requires small { All (λ m. length m.symbols < 2 ^ 32) modules.now.items }
+    ensures joined { IfOk result (λ _. Joins (linked modules.now.items)) }
+    ensures table { IfOk result (λ t. IsTable (linked modules.now.items) t.defs.entries) }
+    ensures refused { IfErr result (IsRefusal (linked modules.now.items)) }
+
+    // A cause that holds, with none before it in the order, is the answer, unless memory ran out.
+    ensures refused_exactly { (fault : LinkFault) → fault ≢ Memory → IsRefusal (linked modules.now.items) fault → (result ≡ Err fault) ⊎ (result ≡ Err Memory) }
+    ensures joined_exactly { Joins (linked modules.now.items) → IsOk result ⊎ (result ≡ Err Memory) }
+{
+    join(alloc, modules)
 }
