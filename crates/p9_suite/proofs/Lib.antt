@@ -5,5 +5,6 @@ pub mod Compiled
 pub mod RunLemmas
 pub mod Simulations
 pub mod Exited
+pub mod ViLemmas
 pub mod SuiteLemmas
 pub mod Ordered

@@ -1,9 +1,9 @@
 -- A text that is put piece by piece.
-use Rattle.std.proofs.Common.{◌≡◌, ℕ, ◌+◌, ◌-◌, ◌≤◌, List, [], ◌++◌, length, take, drop, Option, Some, None, IfSome, Bool, true, false, MatchBool, refl, sym, ap, ◌∙◌, subst, arith, append_assoc, length-append, append-nil, inl, inr}
+use Rattle.std.proofs.Common.{◌≡◌, ℕ, ◌+◌, ◌-◌, ◌≤◌, ◌<◌, min, max, List, [], ◌∷◌, ◌++◌, length, take, drop, Option, Some, None, IfSome, Bool, true, false, MatchBool, refl, sym, ap, ◌∙◌, subst, arith, append_assoc, length-append, append-nil, inl, inr}
 use Rattle.std.proofs.lemmas.List.{take-append-drop, take-append-le}
 use Rattle.std.proofs.lemmas.Grind.{common_steps}
 use Rattle.std.proofs.Math.Seq.{take-append_seam, take-append-add}
-use Rattle.p9_base.specs.Outside.{Puts, PutCause}
+use Rattle.p9_base.specs.Outside.{Puts, PutCause, Rose}
 use Rattle.p9_base.specs.declared.outside.Put.TheVariants.{Wrote, Failed}
 use Rattle.p9_suite.specs.Reports.{Whole, Cut, Tells}
 
@@ -80,3 +80,7 @@ then_put a b before mid after f g h false p q = second_cut a b before mid after 
 pub told : {S : Type 0} (sofar : S → Option (List ℕ)) (faults : S → ℕ) (old new : S) (text line : List ℕ) (r : Bool) → MatchBool r (Whole (sofar old) (sofar new) (faults old) (faults new) text) (Cut (sofar old) (sofar new) (faults old) (faults new) text) → text ≡ line → Tells sofar faults old new line
 told sofar faults old new text line true h e = inl (rw e at h)
 told sofar faults old new text line false h e = inr (rw e at h)
+
+-- the text that was put is the line
+pub line_is : (text line : List ℕ) (before after : Option (List ℕ)) (f g : ℕ) (r : Bool) → text ≡ line → MatchBool r (Whole before after f g text) (Cut before after f g text) → MatchBool r (Whole before after f g line) (Cut before after f g line)
+line_is text line before after f g r e h = subst (λ (x : List ℕ). MatchBool r (Whole before after f g x) (Cut before after f g x)) e h

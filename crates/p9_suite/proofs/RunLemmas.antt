@@ -1,14 +1,15 @@
 -- How the answers of `run` come.
-use Rattle.std.proofs.Common.{◌≡◌, ℕ, List, [], ◌∷◌, Ok, Err, inl, inr, refl, ap, map}
+use Rattle.std.proofs.Common.{◌≡◌, ℕ, List, [], ◌∷◌, Result, Ok, Err, inl, inr, refl, sym, ◌∙◌, ap, subst, map}
 use Rattle.p9_base.specs.Outside.{FileCall, ReadCall, WriteCall}
 use Rattle.p9_base.specs.declared.outside.Got.TheVariants as got
 use Rattle.p9_base.specs.declared.outside.FileFault.TheVariants as fault
 use Rattle.p9_base.specs.Calls.{OnFiles, Objects, Doing, Did}
+use Rattle.p9_base.proofs.CallLemmas.{objects_of}
 use Rattle.p9_suite.specs.declared.answer.Answer.{Answer}
-use Rattle.p9_suite.specs.declared.answer.Answer.TheVariants.{Ended, Usage, Absent, StoreFault, Memory, NotBuilt}
+use Rattle.p9_suite.specs.declared.answer.Answer.TheVariants.{Ended, Usage, Absent, ReadFault, WriteFault, StoreFault, Memory, Halted, Spent, BadMagic, ShortFile, BadSegment, NotBuilt}
 use Rattle.p9_suite.specs.Form.{HasForm, HasNoForm}
 use Rattle.p9_suite.specs.Ends.{EndsWith}
-use Rattle.p9_suite.specs.RunCommand.{IsProgram, output_name, read_file, wrote, StoreDid, StoreBuilds, StoreRuns, BuildCalls, RunCalls, RunDoes}
+use Rattle.p9_suite.specs.RunCommand.{IsProgram, output_name, read_file, wrote, StoreDid, StoreBuilds, StoreRuns, ReadsAndBuilds, BuildCalls, RunCalls, RunDoes}
 
 -- Of a program that is built and run
 
@@ -50,6 +51,13 @@ builds name file text Usage behind h b = b
 builds name file text (Absent word) behind h b = absurd b
 builds name file text (StoreFault word) behind h b = inr (file, text, behind, refl, h, b)
 builds name file text Memory behind h b = inr (inr (file, text, behind, refl, h, b))
+builds name file text ReadFault behind h b = absurd b
+builds name file text WriteFault behind h b = absurd b
+builds name file text (Halted cause pc) behind h b = absurd b
+builds name file text (Spent n) behind h b = absurd b
+builds name file text (BadMagic word m) behind h b = absurd b
+builds name file text (ShortFile word need) behind h b = absurd b
+builds name file text (BadSegment word) behind h b = absurd b
 builds name file text (NotBuilt word) behind h b = absurd b
 
 pub ran_built : {F : Type 0} (does : F → FileCall → F → Type 0) (f m g : F) (name file text : List ℕ) (answer : Answer) → does f (ReadCall name (got.Found file)) m → HasForm file text → StoreBuilds does m g text answer → StoreRuns does f g name answer
@@ -66,3 +74,11 @@ did_store doing i o f g (call ∷ calls) d = (record { input = i; out = o; files
 
 pub run_does : {I O F : Type 0} (doing : Doing I O F) (i : I) (o : O) (f g : F) (name : List ℕ) (answer : Answer) → StoreRuns doing.stores f g name answer → RunDoes doing (record { input = i; out = o; files = f }) (record { input = i; out = o; files = g }) name answer
 run_does doing i o f g name answer r = (r.0, did_store doing i o f g r.0 r.1, r.2)
+
+-- the source and the sink are as they were
+pub same_objects : {I O F : Type 0} (i : I) (o : O) (f : F) (j : I) (p : O) (g : F) → j ≡ i → p ≡ o → g ≡ f → ◌≡◌ {A = Objects I O F} (record { input = j; out = p; files = g }) (record { input = i; out = o; files = f })
+same_objects {I} {O} {F} i o f j p g a b c = ap (λ (x : I). objects_of x p g) a ∙ (ap (λ (y : O). objects_of i y g) b ∙ ap (λ (z : F). objects_of i o z) c)
+
+pub run_does_at : {I O F : Type 0} (doing : Doing I O F) (i : I) (o : O) (f : F) (j : I) (p : O) (g : F) (name : List ℕ) (answer : Answer) → StoreRuns doing.stores f g name answer × (j ≡ i) × (p ≡ o) → RunDoes doing (record { input = i; out = o; files = f }) (record { input = j; out = p; files = g }) name answer
+run_does_at {I} {O} {F} doing i o f j p g name answer r =
+    subst (λ (x : Objects I O F). RunDoes doing (objects_of i o f) x name answer) (sym (same_objects i o g j p g r.1 r.2 refl)) (run_does doing i o f g name answer r.0)

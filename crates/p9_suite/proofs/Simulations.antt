@@ -1,5 +1,5 @@
 -- What the simulation of an executable that ends by itself comes to.
-use Rattle.std.proofs.Common.{◌≡◌, ℕ, List, [], Option, Some, IsSomeAnd, Result, Ok, Err, IfOk, option_map, refl, sym, ap, ◌∙◌, subst}
+use Rattle.std.proofs.Common.{◌≡◌, ℕ, List, [], Option, Some, None, IsSomeAnd, Result, Ok, Err, IfOk, option_map, refl, sym, ap, ◌∙◌, subst}
 use Rattle.p9_aout.specs.Image.{ImageParts, image_of}
 use Rattle.p9_aout.specs.declared.format.AoutFault.{AoutFault}
 use Rattle.p9_r3k.specs.Memory.{Core}
@@ -82,8 +82,3 @@ is_image (Err why) m P h fault e = h
 pub has_image : (bytes : List ℕ) (fault : AoutFault) → EndsAlone bytes → image_of bytes ≡ Err fault → ⊥
 unfolding vrun
 has_image bytes fault alone e = is_image (image_of bytes) budget _ (alone.ends []) fault e
-
--- a copy of that text is what it ends with
-pub copy_ends : {E : Type 0} (bytes text printed : List ℕ) (copy : Result (List ℕ) E) → IfOk copy (λ c. c ≡ printed) → printed ≡ text → EndsWith bytes text → IfOk copy (λ c. EndsWith bytes c)
-copy_ends bytes text printed (Ok c) same e h = subst (λ (t : List ℕ). EndsWith bytes t) (sym (same ∙ e)) h
-copy_ends bytes text printed (Err x) same e h = tt

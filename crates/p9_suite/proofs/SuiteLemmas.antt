@@ -1,20 +1,25 @@
 -- What the suite's answers say of its words, its store and its status.
-use Rattle.std.proofs.Common.{◌≡◌, ◌≢◌, ◌⊎◌, ℕ, List, [], ◌∷◌, Option, Some, None, IfSome, IsSomeAnd, Result, Ok, Err, inl, inr, refl, sym, ap, ◌∙◌, subst}
-use Rattle.p9_base.specs.Outside.{Held, Rose, Answers, OthersAsBefore, Reads, Writes, ReadCause, WriteCause, TakeCall, PutCall, FileCall, ReadCall, FileMeans}
+use Rattle.std.proofs.Common.{◌≡◌, ◌≢◌, ◌⊎◌, ℕ, List, [], ◌∷◌, map, Option, Some, None, IfSome, IsSomeAnd, Result, Ok, Err, inl, inr, refl, sym, ap, ◌∙◌, subst}
+use Rattle.p9_base.specs.Outside.{Held, Rose, Answers, OthersAsBefore, Reads, Writes, ReadCause, WriteCause, TakeCall, TakeMeans, PutCall, PutMeans, FileCall, ReadCall, WriteCall, FileMeans}
+use Rattle.p9_base.specs.Calls.{StreamCall, Call, OnStream, OnFiles, Objects, Doing, Did, Counts, Counted, CountsSay}
+use Rattle.p9_base.proofs.CallLemmas.{take_counts, put_counts, file_counts, counts_say}
 use Rattle.p9_base.specs.declared.outside.Got.{Got}
 use Rattle.p9_base.specs.declared.outside.Got.TheVariants as got
 use Rattle.p9_base.specs.declared.outside.FileFault.{FileFault}
 use Rattle.p9_base.specs.declared.outside.FileFault.TheVariants as fault
 use Rattle.p9_suite.specs.declared.answer.Answer.{Answer}
-use Rattle.p9_suite.specs.declared.answer.Answer.TheVariants.{Ended, Usage, Absent, StoreFault, Memory, NotBuilt}
-use Rattle.p9_suite.specs.Answers.{status}
+use Rattle.p9_suite.specs.declared.answer.Answer.TheVariants.{Ended, Usage, Absent, ReadFault, WriteFault, StoreFault, Memory, Halted, Spent, BadMagic, ShortFile, BadSegment, NotBuilt}
+use Rattle.p9_suite.specs.Answers.{status, message}
 use Rattle.p9_suite.specs.Form.{HasForm, HasNoForm}
-use Rattle.p9_suite.specs.Commands.{Command, Run, command_of}
+use Rattle.p9_suite.specs.Ends.{EndsWith}
+use Rattle.p9_suite.specs.Commands.{Command, Run, Vi, command_of}
 use Rattle.p9_suite.specs.RunCommand.{IsProgram, output_name, read_file, wrote, StoreDid, StoreRuns, ReadsAndBuilds, BuildCalls, RunCalls}
-use Rattle.p9_suite.specs.Suite.{CommandStores, StatusOfFile, StatusSays, IsRun, Headline, CommandDoes, SuiteDoes, doing, objects}
+use Rattle.p9_suite.specs.ViCommand.{ReadsAndSimulates, ViCalls, ViDoes}
+use Rattle.p9_suite.specs.Suite.{CommandMakes, CommandTells, StatusOfFile, StatusSays, IsRun, Headline, CommandDoes, SuiteDoes, RunsNone, ViSays, doing, objects, failing_at, fault_counts}
 use Rattle.p9_suite.proofs.Exited.{printed_is}
 use Rattle.p9_suite.proofs.Forms.{one_form}
-use Rattle.p9_suite.proofs.RunLemmas.{run_does}
+use Rattle.p9_suite.proofs.Ordered.{calls_made}
+use Rattle.p9_suite.proofs.RunLemmas.{run_does_at, same_objects}
 
 -- Statuses
 
@@ -159,6 +164,13 @@ built_says held faults does means old mid new name file text a behind d more h b
     by_answer Memory behind more (inr (inr b)) same there count =
         let w = wrote_means b.0 (Ok tt) (subst (λ c. StoreDid does mid c new) b.1 more) in
         says_memory name (held old) (held new) (faults old) (faults new) (w.1 ∙ count) (kept_wrote (held old) (held mid) (held new) b.0 (Ok tt) same w.0)
+    by_answer ReadFault behind more b same there count = absurd b
+    by_answer WriteFault behind more b same there count = absurd b
+    by_answer (Halted cause pc) behind more b same there count = absurd b
+    by_answer (Spent n) behind more b same there count = absurd b
+    by_answer (BadMagic word m) behind more b same there count = absurd b
+    by_answer (ShortFile word need) behind more b same there count = absurd b
+    by_answer (BadSegment word) behind more b same there count = absurd b
     by_answer (NotBuilt word) behind more b same there count = absurd b
 
 run_says : {F : Type 0} (held : F → Option Held) (faults : F → ℕ) (does : F → FileCall → F → Type 0) → Means held faults does → (old new : F) (name : List ℕ) (a : Answer) (calls : List FileCall) → StoreDid does old calls new → RunCalls name a calls → RunSays name (held old) (held new) (faults old) (faults new) (status a)
@@ -191,41 +203,217 @@ run_says {F} held faults does means old new name a calls d r = by_answer a calls
         let m = read_means got.NoMemory calls d e in
         says_memory name (held old) (held new) (faults old) (faults new) m.1 (kept_same (held old) (held new) m.0.0)
     by_answer Memory calls d (inr (inr r)) = built Memory calls d r
+    by_answer ReadFault calls d r = absurd r
+    by_answer WriteFault calls d r = absurd r
+    by_answer (Halted cause pc) calls d r = absurd r
+    by_answer (Spent n) calls d r = absurd r
+    by_answer (BadMagic word m) calls d r = absurd r
+    by_answer (ShortFile word need) calls d r = absurd r
+    by_answer (BadSegment word) calls d r = absurd r
     by_answer (NotBuilt word) calls d r =
         let m = read_means (got.Found r.1) calls d r.2 in
         says_not_built name r.1 (held old) (held new) (faults old) (faults new) m.1 m.0.0 m.0.1 r.3
+
+-- The counts of faults
+
+counted : {I O F : Type 0} (left : I → Option (List ℕ)) (input_faults : I → ℕ) (takes : I → TakeCall → I → Type 0) (sofar : O → Option (List ℕ)) (out_faults : O → ℕ) (puts : O → PutCall → O → Type 0) (held : F → Option Held) (store_faults : F → ℕ) (stores : F → FileCall → F → Type 0) →
+    ((old : I) (call : TakeCall) (new : I) → takes old call new → TakeMeans (left old) (input_faults old) call (left new) (input_faults new)) →
+    ((old : O) (call : PutCall) (new : O) → puts old call new → PutMeans (sofar old) (out_faults old) call (sofar new) (out_faults new)) →
+    Means held store_faults stores →
+    Counted I O F (doing takes puts stores) (record { input_faults = input_faults; out_faults = out_faults; store_faults = store_faults })
+counted left input_faults takes sofar out_faults puts held store_faults stores of_takes of_puts of_stores = record {
+  of_takes = λ old call new d. take_counts (left old) (input_faults old) call (left new) (input_faults new) (of_takes old call new d);
+  of_puts = λ old call new d. put_counts (sofar old) (out_faults old) call (sofar new) (out_faults new) (of_puts old call new d);
+  of_files = λ old call new d. file_counts (held old) (store_faults old) call (held new) (store_faults new) (of_stores old call new d);
+}
+
+record FaultsSay (i j o p f g : ℕ) (s : ℕ) : Type 0 where
+  pub read_fault : s ≡ 7 → Rose i j
+  pub no_read_fault : s ≢ 7 → j ≡ i
+  pub write_fault : s ≡ 8 → Rose o p
+  pub no_write_fault : s ≢ 8 → p ≡ o
+  pub store_fault : s ≡ 9 → Rose f g
+  pub no_store_fault : s ≢ 9 → g ≡ f
+
+no_faults : (i j o p f g s : ℕ) → (s ≡ 7 → ⊥) → (s ≡ 8 → ⊥) → (s ≡ 9 → ⊥) → (j ≡ i) × (p ≡ o) × (g ≡ f) → FaultsSay i j o p f g s
+no_faults i j o p f g s seven eight nine c = record {
+  read_fault = λ e. absurd (seven e);
+  no_read_fault = λ _. c.0;
+  write_fault = λ e. absurd (eight e);
+  no_write_fault = λ _. c.1;
+  store_fault = λ e. absurd (nine e);
+  no_store_fault = λ _. c.2;
+}
+
+at_seven : (i j o p f g : ℕ) → Rose i j × (p ≡ o) × (g ≡ f) → FaultsSay i j o p f g 7
+at_seven i j o p f g c = record {
+  read_fault = λ _. c.0;
+  no_read_fault = λ n. absurd (n refl);
+  write_fault = λ e. cc;
+  no_write_fault = λ _. c.1;
+  store_fault = λ e. cc;
+  no_store_fault = λ _. c.2;
+}
+
+at_eight : (i j o p f g : ℕ) → Rose o p × (j ≡ i) × (g ≡ f) → FaultsSay i j o p f g 8
+at_eight i j o p f g c = record {
+  read_fault = λ e. cc;
+  no_read_fault = λ _. c.1;
+  write_fault = λ _. c.0;
+  no_write_fault = λ n. absurd (n refl);
+  store_fault = λ e. cc;
+  no_store_fault = λ _. c.2;
+}
+
+at_nine : (i j o p f g : ℕ) → Rose f g × (j ≡ i) × (p ≡ o) → FaultsSay i j o p f g 9
+at_nine i j o p f g c = record {
+  read_fault = λ e. cc;
+  no_read_fault = λ _. c.1;
+  write_fault = λ e. cc;
+  no_write_fault = λ _. c.2;
+  store_fault = λ _. c.0;
+  no_store_fault = λ n. absurd (n refl);
+}
+
+faults_say : {I O F : Type 0} (counts : Counts I O F) (old new : Objects I O F) (a : Answer) → CountsSay counts old new (failing_at (status a)) → FaultsSay (counts.input_faults old.input) (counts.input_faults new.input) (counts.out_faults old.out) (counts.out_faults new.out) (counts.store_faults old.files) (counts.store_faults new.files) (status a)
+faults_say counts old new (Ended []) c = no_faults _ _ _ _ _ _ 0 (λ e. cc) (λ e. cc) (λ e. cc) c
+faults_say counts old new (Ended (x ∷ xs)) c = no_faults _ _ _ _ _ _ 1 (λ e. cc) (λ e. cc) (λ e. cc) c
+faults_say counts old new Usage c = no_faults _ _ _ _ _ _ 2 (λ e. cc) (λ e. cc) (λ e. cc) c
+faults_say counts old new (Absent word) c = no_faults _ _ _ _ _ _ 6 (λ e. cc) (λ e. cc) (λ e. cc) c
+faults_say counts old new ReadFault c = at_seven _ _ _ _ _ _ c
+faults_say counts old new WriteFault c = at_eight _ _ _ _ _ _ c
+faults_say counts old new (StoreFault word) c = at_nine _ _ _ _ _ _ c
+faults_say counts old new Memory c = no_faults _ _ _ _ _ _ 10 (λ e. cc) (λ e. cc) (λ e. cc) c
+faults_say counts old new (Halted cause pc) c = no_faults _ _ _ _ _ _ 11 (λ e. cc) (λ e. cc) (λ e. cc) c
+faults_say counts old new (Spent n) c = no_faults _ _ _ _ _ _ 12 (λ e. cc) (λ e. cc) (λ e. cc) c
+faults_say counts old new (BadMagic word m) c = no_faults _ _ _ _ _ _ 13 (λ e. cc) (λ e. cc) (λ e. cc) c
+faults_say counts old new (ShortFile word need) c = no_faults _ _ _ _ _ _ 13 (λ e. cc) (λ e. cc) (λ e. cc) c
+faults_say counts old new (BadSegment word) c = no_faults _ _ _ _ _ _ 13 (λ e. cc) (λ e. cc) (λ e. cc) c
+faults_say counts old new (NotBuilt word) c = no_faults _ _ _ _ _ _ 16 (λ e. cc) (λ e. cc) (λ e. cc) c
+
+-- Of `vi`
+
+vi_no_usage : (name : List ℕ) (budget : ℕ) (a : Answer) (calls : List Call) → ViCalls name budget a calls → status a ≡ 2 → ⊥
+vi_no_usage name budget (Ended printed) calls r e = ended_not printed 2 (λ z. cc) (λ z. cc) e
+vi_no_usage name budget Usage calls r e = r
+vi_no_usage name budget (Absent word) calls r e = cc
+vi_no_usage name budget ReadFault calls r e = cc
+vi_no_usage name budget WriteFault calls r e = cc
+vi_no_usage name budget (StoreFault word) calls r e = cc
+vi_no_usage name budget Memory calls r e = cc
+vi_no_usage name budget (Halted cause pc) calls r e = cc
+vi_no_usage name budget (Spent n) calls r e = cc
+vi_no_usage name budget (BadMagic word m) calls r e = cc
+vi_no_usage name budget (ShortFile word need) calls r e = cc
+vi_no_usage name budget (BadSegment word) calls r e = cc
+vi_no_usage name budget (NotBuilt word) calls r e = r
+
+-- calls on the source and the sink leave the store
+streams_keep : {I O F : Type 0} (doing : Doing I O F) (calls : List StreamCall) (old new : Objects I O F) → Did doing old (map OnStream calls) new → new.files ≡ old.files
+streams_keep {I} {O} {F} doing [] old new d = ap (λ (x : Objects I O F). x.files) d
+streams_keep doing (call ∷ calls) old new d = streams_keep doing calls d.0 new d.2 ∙ d.1.1
+
+-- the store's content after a read, and calls on the others
+read_keeps : {I O F : Type 0} (takes : I → TakeCall → I → Type 0) (puts : O → PutCall → O → Type 0) (held : F → Option Held) (faults : F → ℕ) (stores : F → FileCall → F → Type 0) → Means held faults stores → (old new : Objects I O F) (name : List ℕ) (answer : Got) (calls : List StreamCall) → Did (doing takes puts stores) old (OnFiles (ReadCall name answer) ∷ map OnStream calls) new → held new.files ≡ held old.files
+read_keeps takes puts held faults stores means old new name answer calls d =
+    ap held (streams_keep (doing takes puts stores) calls d.0 new d.2) ∙ (means old.files (ReadCall name answer) d.0.files d.1.0).0.0
+
+vi_keeps : {I O F : Type 0} (takes : I → TakeCall → I → Type 0) (puts : O → PutCall → O → Type 0) (held : F → Option Held) (faults : F → ℕ) (stores : F → FileCall → F → Type 0) → Means held faults stores → (old new : Objects I O F) (name : List ℕ) (budget : ℕ) (a : Answer) → ViDoes (doing takes puts stores) old new name budget a → held new.files ≡ held old.files
+vi_keeps {I} {O} {F} takes puts held faults stores means old new name budget a (calls, d, r) = by_answer a r
+  where
+    read : (answer : Got) → calls ≡ OnFiles (ReadCall name answer) ∷ [] → held new.files ≡ held old.files
+    read answer e = read_keeps takes puts held faults stores means old new name answer [] (subst (λ c. Did (doing takes puts stores) old c new) e d)
+
+    simulated : (a : Answer) → ReadsAndSimulates name budget a calls → held new.files ≡ held old.files
+    simulated a r = read_keeps takes puts held faults stores means old new name (got.Found r.0) r.1 (subst (λ c. Did (doing takes puts stores) old c new) r.2 d)
+
+    by_answer : (a : Answer) → ViCalls name budget a calls → held new.files ≡ held old.files
+    by_answer (Ended printed) r = simulated (Ended printed) r
+    by_answer Usage r = absurd r
+    by_answer (Absent word) r = read got.Absent r.1
+    by_answer ReadFault r = simulated ReadFault r
+    by_answer WriteFault r = simulated WriteFault r
+    by_answer (StoreFault word) r = read got.Failed r.1
+    by_answer Memory (inl e) = let n : new ≡ old = subst (λ c. Did (doing takes puts stores) old c new) e d in ap (λ (x : Objects I O F). held x.files) n
+    by_answer Memory (inr (inl e)) = read got.NoMemory e
+    by_answer Memory (inr (inr r)) = simulated Memory r
+    by_answer (Halted cause pc) r = simulated (Halted cause pc) r
+    by_answer (Spent n) r = simulated (Spent n) r
+    by_answer (BadMagic word m) r = simulated (BadMagic word m) r
+    by_answer (ShortFile word need) r = simulated (ShortFile word need) r
+    by_answer (BadSegment word) r = simulated (BadSegment word) r
+    by_answer (NotBuilt word) r = absurd r
 
 -- The causes of the statuses
 
 no_command : (c : Command) → None ≡ Some c → ⊥
 no_command c e = cc
 
-two_nine : ◌≡◌ {A = ℕ} 2 9 → ⊥
-two_nine e = cc
+run_is_no_vi : (name other : List ℕ) (budget : ℕ) → ◌≡◌ {A = Option Command} (Some (Run name)) (Some (Vi budget other)) → ⊥
+run_is_no_vi name other budget e = cc
 
-pub suite_says : {F : Type 0} (held : F → Option Held) (faults : F → ℕ) (does : F → FileCall → F → Type 0) → Means held faults does → (old new : F) (words : List (List ℕ)) (a : Answer) (s : ℕ) → CommandStores does old new (command_of words) a → s ≡ status a → StatusSays words (held old) (held new) (faults old) (faults new) s
-suite_says {F} held faults does means old new words a s stores e = by_command (command_of words) refl stores
+pub suite_says : {I O F : Type 0} (left : I → Option (List ℕ)) (input_faults : I → ℕ) (takes : I → TakeCall → I → Type 0) (sofar : O → Option (List ℕ)) (out_faults : O → ℕ) (puts : O → PutCall → O → Type 0) (held : F → Option Held) (faults : F → ℕ) (stores : F → FileCall → F → Type 0) →
+    ((old : I) (call : TakeCall) (new : I) → takes old call new → TakeMeans (left old) (input_faults old) call (left new) (input_faults new)) →
+    ((old : O) (call : PutCall) (new : O) → puts old call new → PutMeans (sofar old) (out_faults old) call (sofar new) (out_faults new)) →
+    Means held faults stores →
+    (i : I) (o : O) (f : F) (j : I) (p : O) (g : F) (words : List (List ℕ)) (a : Answer) (s : ℕ) → CommandMakes takes puts stores i o f j p g (command_of words) a → s ≡ status a →
+    StatusSays words (held f) (held g) (fault_counts (input_faults i) (out_faults o) (faults f)) (fault_counts (input_faults j) (out_faults p) (faults g)) s
+suite_says {I} {O} {F} left input_faults takes sofar out_faults puts held faults stores of_takes of_puts means i o f j p g words a s makes e =
+    subst (λ n. StatusSays words (held f) (held g) (fault_counts (input_faults i) (out_faults o) (faults f)) (fault_counts (input_faults j) (out_faults p) (faults g)) n) (sym e) (by_command (command_of words) refl makes)
   where
-    by_command : (c : Option Command) → command_of words ≡ c → CommandStores does old new c a → StatusSays words (held old) (held new) (faults old) (faults new) s
-    by_command None w r =
-        let two : s ≡ 2 = e ∙ ap status r.0 in
-        record {
-          usage = (λ _. w, λ _. two);
-          store_fault = λ nine. absurd (two_nine (sym two ∙ nine));
-          no_store_fault = λ _. ap faults r.1;
-          file = λ name c. absurd (no_command (Run name) (sym w ∙ c));
-          unwritten = λ _. ap held r.1;
-          others = kept_same (held old) (held new) (ap held r.1);
-        }
+    counts : Counts I O F
+    counts = record { input_faults = input_faults; out_faults = out_faults; store_faults = faults }
+
+    all : FaultsSay (input_faults i) (input_faults j) (out_faults o) (out_faults p) (faults f) (faults g) (status a)
+    all =
+        let m = calls_made takes puts stores i o f j p g words a (status a) makes refl in
+        faults_say counts (objects i o f) (objects j p g) a
+        (counts_say (doing takes puts stores) counts (counted left input_faults takes sofar out_faults puts held faults stores of_takes of_puts means) m.0 (failing_at (status a)) (objects i o f) (objects j p g) m.1 m.2)
+
+    by_command : (c : Option Command) → command_of words ≡ c → CommandMakes takes puts stores i o f j p g c a → StatusSays words (held f) (held g) (fault_counts (input_faults i) (out_faults o) (faults f)) (fault_counts (input_faults j) (out_faults p) (faults g)) (status a)
+    by_command None w r = record {
+      usage = (λ _. w, λ _. ap status r.0);
+      read_fault = all.read_fault;
+      no_read_fault = all.no_read_fault;
+      write_fault = all.write_fault;
+      no_write_fault = all.no_write_fault;
+      store_fault = all.store_fault;
+      no_store_fault = all.no_store_fault;
+      file = λ name c. absurd (no_command (Run name) (sym w ∙ c));
+      unwritten = λ _. ap held r.3;
+      read_only = λ _ _ _. ap held r.3;
+      others = kept_same (held f) (held g) (ap held r.3);
+    }
     by_command (Some (Run name)) w r =
-        let says : RunSays name (held old) (held new) (faults old) (faults new) s = subst (λ n. RunSays name (held old) (held new) (faults old) (faults new) n) (sym e) (run_says held faults does means old new name a r.0 r.1 r.2) in
+        let d = r.0 in
+        let says : RunSays name (held f) (held g) (faults f) (faults g) (status a) = run_says held faults stores means f g name a d.0 d.1 d.2 in
         record {
           usage = (λ two. absurd (says.no_usage two), λ none. absurd (no_command (Run name) (sym none ∙ w)));
-          store_fault = says.store_fault;
-          no_store_fault = says.no_store_fault;
-          file = λ other c. let same : name ≡ other = cc in subst (λ (n : List ℕ). s ≢ 9 → s ≢ 10 → IfSome (held old) (λ files. StatusOfFile (files n) s)) same says.file;
+          read_fault = all.read_fault;
+          no_read_fault = all.no_read_fault;
+          write_fault = all.write_fault;
+          no_write_fault = all.no_write_fault;
+          store_fault = all.store_fault;
+          no_store_fault = all.no_store_fault;
+          file = λ other c. let same : name ≡ other = cc in subst (λ (n : List ℕ). status a ≢ 9 → status a ≢ 10 → IfSome (held f) (λ files. StatusOfFile (files n) (status a))) same says.file;
           unwritten = λ u. elim u [ inl two ↦ absurd (says.no_usage two) | inr more ↦ says.unwritten more ];
+          read_only = λ budget other c. absurd (run_is_no_vi name other budget (sym w ∙ c));
           others = says.others;
+        }
+    by_command (Some (Vi budget name)) w r =
+        let keeps : held g ≡ held f = vi_keeps takes puts held faults stores means (objects i o f) (objects j p g) name budget a r in
+        record {
+          usage = (λ two. absurd (vi_no_usage name budget a r.0 r.2 two), λ none. absurd (no_command (Vi budget name) (sym none ∙ w)));
+          read_fault = all.read_fault;
+          no_read_fault = all.no_read_fault;
+          write_fault = all.write_fault;
+          no_write_fault = all.no_write_fault;
+          store_fault = all.store_fault;
+          no_store_fault = all.no_store_fault;
+          file = λ other c. absurd (run_is_no_vi other name budget (sym c ∙ w));
+          unwritten = λ _. keeps;
+          read_only = λ _ _ _. keeps;
+          others = kept_same (held f) (held g) keeps;
         }
 
 -- The headline
@@ -263,6 +451,13 @@ headline_run {F} held faults does means old new name file text files at here h (
     none_some file e = cc
 headline_run {F} held faults does means old new name file text files at here h (StoreFault word) nine ten calls d r = absurd (nine refl)
 headline_run {F} held faults does means old new name file text files at here h Memory nine ten calls d r = absurd (ten refl)
+headline_run {F} held faults does means old new name file text files at here h ReadFault nine ten calls d r = absurd r
+headline_run {F} held faults does means old new name file text files at here h WriteFault nine ten calls d r = absurd r
+headline_run {F} held faults does means old new name file text files at here h (Halted cause pc) nine ten calls d r = absurd r
+headline_run {F} held faults does means old new name file text files at here h (Spent n) nine ten calls d r = absurd r
+headline_run {F} held faults does means old new name file text files at here h (BadMagic word m) nine ten calls d r = absurd r
+headline_run {F} held faults does means old new name file text files at here h (ShortFile word need) nine ten calls d r = absurd r
+headline_run {F} held faults does means old new name file text files at here h (BadSegment word) nine ten calls d r = absurd r
 headline_run {F} held faults does means old new name file text files at here h (NotBuilt word) nine ten calls d r =
     let did : StoreDid does old (read_file name r.1 ∷ []) new = subst (λ c. StoreDid does old c new) r.2 d in
     let read = means old (read_file name r.1) did.0 did.1 in
@@ -270,14 +465,14 @@ headline_run {F} held faults does means old new name file text files at here h (
     let same_file : file ≡ r.1 = cc in
     absurd (r.3 text (subst (λ (x : List ℕ). HasForm x text) same_file h))
 
-pub headline : {F : Type 0} (held : F → Option Held) (faults : F → ℕ) (does : F → FileCall → F → Type 0) → Means held faults does → (old new : F) (words : List (List ℕ)) (a : Answer) (s : ℕ) → CommandStores does old new (command_of words) a → s ≡ status a → Headline words (held old) (held new) s
-headline {F} held faults does means old new words a s stores e name file text w = by_held (held old) refl
+pub headline : {I O F : Type 0} (takes : I → TakeCall → I → Type 0) (puts : O → PutCall → O → Type 0) (held : F → Option Held) (faults : F → ℕ) (does : F → FileCall → F → Type 0) → Means held faults does → (i : I) (o : O) (old : F) (j : I) (p : O) (new : F) (words : List (List ℕ)) (a : Answer) (s : ℕ) → CommandMakes takes puts does i o old j p new (command_of words) a → s ≡ status a → Headline words (held old) (held new) s
+headline {I} {O} {F} takes puts held faults does means i o old j p new words a s makes e name file text w = by_held (held old) refl
   where
     run : (files : Held) → held old ≡ Some files → files name ≡ Some file → HasForm file text → s ≢ 9 → s ≢ 10 → (bytes : List ℕ) × IsSomeAnd (held new) (λ now_held. now_held output_name ≡ Some bytes) × IsRun text bytes s
     run files at here h nine ten =
-        let r : StoreRuns does old new name a = subst (λ c. CommandStores does old new c a) w stores in
+        let r : StoreRuns does old new name a × (j ≡ i) × (p ≡ o) = subst (λ c. CommandMakes takes puts does i o old j p new c a) w makes in
         subst (λ (n : ℕ). (bytes : List ℕ) × IsSomeAnd (held new) (λ now_held. now_held output_name ≡ Some bytes) × IsRun text bytes n) (sym e)
-        (headline_run held faults does means old new name file text files at here h a (λ x. nine (e ∙ x)) (λ x. ten (e ∙ x)) r.0 r.1 r.2)
+        (headline_run held faults does means old new name file text files at here h a (λ x. nine (e ∙ x)) (λ x. ten (e ∙ x)) r.0.0 r.0.1 r.0.2)
 
     by_held : (x : Option Held) → held old ≡ x → IfSome x (λ files. files name ≡ Some file → HasForm file text → s ≢ 9 → s ≢ 10 → (bytes : List ℕ) × IsSomeAnd (held new) (λ now_held. now_held output_name ≡ Some bytes) × IsRun text bytes s)
     by_held None at = tt
@@ -285,9 +480,18 @@ headline {F} held faults does means old new words a s stores e name file text w 
 
 -- The exact relation
 
-pub suite_does : {I O F : Type 0} (takes : I → TakeCall → I → Type 0) (puts : O → PutCall → O → Type 0) (stores : F → FileCall → F → Type 0) (i : I) (o : O) (f g : F) (words : List (List ℕ)) (a : Answer) → CommandStores stores f g (command_of words) a → SuiteDoes (doing takes puts stores) (objects i o f) (objects i o g) words a
-suite_does takes puts stores i o f g words a c = by_command (command_of words) c
+pub suite_does : {I O F : Type 0} (takes : I → TakeCall → I → Type 0) (puts : O → PutCall → O → Type 0) (stores : F → FileCall → F → Type 0) (i : I) (o : O) (f : F) (j : I) (p : O) (g : F) (words : List (List ℕ)) (a : Answer) → CommandMakes takes puts stores i o f j p g (command_of words) a → SuiteDoes (doing takes puts stores) (objects i o f) (objects j p g) words a
+suite_does takes puts stores i o f j p g words a c = by_command (command_of words) c
   where
-    by_command : (c : Option Command) → CommandStores stores f g c a → CommandDoes (doing takes puts stores) (objects i o f) (objects i o g) c a
-    by_command None r = (r.0, ap (λ x. objects i o x) r.1)
-    by_command (Some (Run name)) r = run_does (doing takes puts stores) i o f g name a r
+    by_command : (c : Option Command) → CommandMakes takes puts stores i o f j p g c a → CommandDoes (doing takes puts stores) (objects i o f) (objects j p g) c a
+    by_command None r = (r.0, same_objects i o f j p g r.1 r.2 r.3)
+    by_command (Some (Run name)) r = run_does_at (doing takes puts stores) i o f j p g name a r
+    by_command (Some (Vi budget name)) r = r
+
+pub quiet : {I O F : Type 0} (takes : I → TakeCall → I → Type 0) (puts : O → PutCall → O → Type 0) (stores : F → FileCall → F → Type 0) (i : I) (o : O) (f : F) (j : I) (p : O) (g : F) (c : Option Command) (a : Answer) → CommandMakes takes puts stores i o f j p g c a → RunsNone c → (j ≡ i) × (p ≡ o)
+quiet takes puts stores i o f j p g None a r n = (r.1, r.2)
+quiet takes puts stores i o f j p g (Some (Run name)) a r n = (r.1, r.2)
+quiet takes puts stores i o f j p g (Some (Vi budget name)) a r n = absurd n
+
+pub vi_says : (words : List (List ℕ)) (held : Option Held) (left later out now : Option (List ℕ)) (a : Answer) (s : ℕ) (Line : List ℕ → Type 0) → CommandTells (command_of words) held left later out now a → s ≡ status a → Line (message a) → ViSays words held left later out now s Line
+vi_says words held left later out now a s Line t e l budget name w = (a, e, l, subst (λ c. CommandTells c held left later out now a) w t)

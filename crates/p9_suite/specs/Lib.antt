@@ -6,4 +6,5 @@ pub mod Program
 pub mod Headline
 pub mod Ends
 pub mod RunCommand
+pub mod ViCommand
 pub mod Suite

@@ -1,13 +1,14 @@
 -- What the command `run` does: the calls that it makes in order, and its answer.
 use Rattle.std.specs.Prelude.{◌≡◌, ℕ, List, [], ◌∷◌, map, Result, Ok, Err, ◌⊎◌, codes}
 use Rattle.p9_base.specs.Outside.{FileCall, ReadCall, WriteCall}
+use Rattle.p9_base.specs.declared.outside.Got.{Got}
 use Rattle.p9_base.specs.declared.outside.Got.TheVariants as got
 use Rattle.p9_base.specs.declared.outside.FileFault.{FileFault}
 use Rattle.p9_base.specs.declared.outside.FileFault.TheVariants as fault
 use Rattle.p9_base.specs.Calls.{OnFiles, Objects, Doing, Did}
 use Rattle.p9_cmean.specs.Laws.{exits_with}
 use Rattle.p9_suite.specs.declared.answer.Answer.{Answer}
-use Rattle.p9_suite.specs.declared.answer.Answer.TheVariants.{Ended, Usage, Absent, StoreFault, Memory, NotBuilt}
+use Rattle.p9_suite.specs.declared.answer.Answer.TheVariants.{Ended, Usage, Absent, ReadFault, WriteFault, StoreFault, Memory, Halted, Spent, BadMagic, ShortFile, BadSegment, NotBuilt}
 use Rattle.p9_suite.specs.Form.{HasForm, HasNoForm}
 use Rattle.p9_suite.specs.Headline.{KeepsMeaning}
 use Rattle.p9_suite.specs.Ends.{EndsWith}
@@ -41,6 +42,13 @@ BuildCalls text Memory calls =
     ⊎ ((bytes : List ℕ) × (calls ≡ wrote bytes (Ok tt) ∷ []) × IsProgram text bytes)
 BuildCalls text Usage calls = ⊥
 BuildCalls text (Absent word) calls = ⊥
+BuildCalls text ReadFault calls = ⊥
+BuildCalls text WriteFault calls = ⊥
+BuildCalls text (Halted cause pc) calls = ⊥
+BuildCalls text (Spent n) calls = ⊥
+BuildCalls text (BadMagic word magic) calls = ⊥
+BuildCalls text (ShortFile word need) calls = ⊥
+BuildCalls text (BadSegment word) calls = ⊥
 BuildCalls text (NotBuilt word) calls = ⊥
 
 -- a file of the form was read, and then its program was built and run
@@ -58,6 +66,13 @@ RunCalls name (StoreFault word) calls =
     ((word ≡ name) × (calls ≡ ReadCall name got.Failed ∷ [])) ⊎ ReadsAndBuilds name (StoreFault word) calls
 RunCalls name Memory calls =
     (calls ≡ []) ⊎ (calls ≡ ReadCall name got.NoMemory ∷ []) ⊎ ReadsAndBuilds name Memory calls
+RunCalls name ReadFault calls = ⊥
+RunCalls name WriteFault calls = ⊥
+RunCalls name (Halted cause pc) calls = ⊥
+RunCalls name (Spent n) calls = ⊥
+RunCalls name (BadMagic word magic) calls = ⊥
+RunCalls name (ShortFile word need) calls = ⊥
+RunCalls name (BadSegment word) calls = ⊥
 RunCalls name (NotBuilt word) calls =
     (word ≡ name) × (file : List ℕ) × (calls ≡ read_file name file ∷ []) × HasNoForm file
 

@@ -1,59 +1,75 @@
 // The line on the sink of errors.
-ghost use Rattle.std.specs.Prelude.{◌≡◌, ◌≤◌, ◌++◌, List, ℕ, length, MatchBool};
-ghost use Rattle.p9_suite.specs.Answers.{message, status};
+ghost use Rattle.std.specs.Prelude.{◌≡◌, ◌++◌, codes, decimal, MatchBool};
+ghost use Rattle.p9_suite.specs.declared.answer.Answer.TheVariants.{Ended};
+ghost use Rattle.p9_suite.specs.Answers.{message, newline, status};
 ghost use Rattle.p9_suite.specs.Reports.{Whole, Cut, Tells};
 
 use crate::answer::Answer;
-use p9_base::{Put, Sink};
+use crate::halt::put_halt;
+use crate::put::{put_all, put_both, put_number_line};
+use p9_base::Sink;
 
-// Puts all of a text, in as many pieces as the sink takes.
-#[tactic(auto, using(crate::proofs::Puts::none_put, crate::proofs::Puts::all_put))]
-fn put_all<S: Sink>(sink: &mut S, text: &[u8]) -> bool
-    ensures { MatchBool result
-        (Whole (S.sofar sink.old) (S.sofar sink.new) (S.faults sink.old) (S.faults sink.new) text.now)
-        (Cut (S.sofar sink.old) (S.sofar sink.new) (S.faults sink.old) (S.faults sink.new) text.now) }
+// The two parts of the line of a program's end.
+fn parts(text: &[u8]) -> (&[u8], &[u8])
+    ensures { result.0.now ++ result.1.now ≡ message (Ended text.now) }
 {
-    let mut rest = text;
-    while !rest.is_empty() {
-        match sink.put(rest) {
-            Put::Wrote(count) => rest = &rest[count..],
-            Put::Failed => return false,
-        }
+    if text.is_empty() {
+        (b"", b"")
+    } else {
+        (text, b"\n")
     }
-    true
 }
 
-// Puts a text and another behind it.
-#[tactic(auto, using(crate::proofs::Puts::then_put, crate::proofs::Puts::first_cut))]
-fn put_both<S: Sink>(sink: &mut S, first: &[u8], second: &[u8]) -> bool
+// Puts the line of a program's end.
+#[tactic(auto, using(crate::proofs::Puts::line_is))]
+fn put_end<S: Sink>(sink: &mut S, text: &[u8]) -> bool
     ensures { MatchBool result
-        (Whole (S.sofar sink.old) (S.sofar sink.new) (S.faults sink.old) (S.faults sink.new) (first.now ++ second.now))
-        (Cut (S.sofar sink.old) (S.sofar sink.new) (S.faults sink.old) (S.faults sink.new) (first.now ++ second.now)) }
+        (Whole (S.sofar sink.old) (S.sofar sink.new) (S.faults sink.old) (S.faults sink.new) (message (Ended text.now)))
+        (Cut (S.sofar sink.old) (S.sofar sink.new) (S.faults sink.old) (S.faults sink.new) (message (Ended text.now))) }
 {
-    if put_all(sink, first) {
-        put_all(sink, second)
+    let (first, second) = parts(text);
+    put_both(sink, first, second)
+}
+
+// Puts the line of a file that is refused for a number.
+#[tactic(auto, using(crate::proofs::Puts::then_put, crate::proofs::Puts::first_cut))]
+fn put_refusal<S: Sink>(sink: &mut S, file: &[u8], fault: &[u8], number: u64) -> bool
+    ensures { MatchBool result
+        (Whole (S.sofar sink.old) (S.sofar sink.new) (S.faults sink.old) (S.faults sink.new) (file.now ++ (fault.now ++ (decimal number ++ newline))))
+        (Cut (S.sofar sink.old) (S.sofar sink.new) (S.faults sink.old) (S.faults sink.new) (file.now ++ (fault.now ++ (decimal number ++ newline)))) }
+{
+    if put_all(sink, file) {
+        put_number_line(sink, fault, number)
     } else {
         false
     }
 }
 
-// The two parts of an answer's line.
-fn parts(answer: &Answer) -> (&[u8], &[u8])
-    ensures { result.0.now ++ result.1.now ≡ message answer.now }
+// Puts an answer's line.
+#[tactic(auto, using(crate::proofs::Puts::line_is))]
+fn put_line<S: Sink>(sink: &mut S, answer: &Answer) -> bool
+    ensures { MatchBool result
+        (Whole (S.sofar sink.old) (S.sofar sink.new) (S.faults sink.old) (S.faults sink.new) (message answer.now))
+        (Cut (S.sofar sink.old) (S.sofar sink.new) (S.faults sink.old) (S.faults sink.new) (message answer.now)) }
 {
     match answer {
-        Answer::Ended(text) => {
-            if text.list.is_empty() {
-                (b"", b"")
-            } else {
-                (&text.list, b"\n")
-            }
+        Answer::Ended(text) => put_end(sink, text.bytes()),
+        Answer::Usage => put_all(sink, b"usage\n"),
+        Answer::Absent(file) => put_both(sink, &file.list, b": absent\n"),
+        Answer::ReadFault => put_all(sink, b"read fault\n"),
+        Answer::WriteFault => put_all(sink, b"write fault\n"),
+        Answer::StoreFault(file) => put_both(sink, &file.list, b": store fault\n"),
+        Answer::Memory => put_all(sink, b"no memory\n"),
+        Answer::Halted(cause, pc) => put_halt(sink, *cause, *pc),
+        Answer::Spent(budget) => put_number_line(sink, b"budget ", u64::from(*budget)),
+        Answer::BadMagic(file, magic) => {
+            put_refusal(sink, &file.list, b": 50 BadMagic ", u64::from(*magic))
         }
-        Answer::Usage => (b"usage", b"\n"),
-        Answer::Absent(file) => (&file.list, b": absent\n"),
-        Answer::StoreFault(file) => (&file.list, b": store fault\n"),
-        Answer::Memory => (b"no memory", b"\n"),
-        Answer::NotBuilt(file) => (&file.list, b": not built\n"),
+        Answer::ShortFile(file, need) => {
+            put_refusal(sink, &file.list, b": 51 ShortFile ", *need)
+        }
+        Answer::BadSegment(file) => put_both(sink, &file.list, b": 52 BadSegment\n"),
+        Answer::NotBuilt(file) => put_both(sink, &file.list, b": not built\n"),
     }
 }
 
@@ -62,8 +78,7 @@ fn parts(answer: &Answer) -> (&[u8], &[u8])
 pub(crate) fn report<S: Sink>(sink: &mut S, answer: &Answer)
     ensures { Tells S.sofar S.faults sink.old sink.new (message answer.now) }
 {
-    let (first, second) = parts(answer);
-    let _is_whole = put_both(sink, first, second);
+    let _is_whole = put_line(sink, answer);
 }
 
 /// The status of an answer.
@@ -71,11 +86,18 @@ pub(crate) fn status(answer: &Answer) -> u8
     ensures { result ≡ status answer.now }
 {
     match answer {
-        Answer::Ended(text) => u8::from(!text.list.is_empty()),
+        Answer::Ended(text) => u8::from(!text.bytes().is_empty()),
         Answer::Usage => 2,
         Answer::Absent(_) => 6,
+        Answer::ReadFault => 7,
+        Answer::WriteFault => 8,
         Answer::StoreFault(_) => 9,
         Answer::Memory => 10,
+        Answer::Halted(_, _) => 11,
+        Answer::Spent(_) => 12,
+        Answer::BadMagic(_, _) => 13,
+        Answer::ShortFile(_, _) => 13,
+        Answer::BadSegment(_) => 13,
         Answer::NotBuilt(_) => 16,
     }
 }

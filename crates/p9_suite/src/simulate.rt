@@ -3,7 +3,7 @@ ghost use Rattle.std.specs.Prelude.{◌≡◌, [], IfOk, Ok};
 ghost use Rattle.p9_aout.specs.Image.{image_of, parts_of, IsWithinBounds};
 ghost use Rattle.p9_suite.specs.Ends.{EndsAlone, EndsWith};
 
-use crate::copied::copied;
+use crate::exit_text::ExitText;
 use p9_aout::{AoutFault, Image, read_aout};
 use p9_base::{Bytes, Calls, MemSink, MemSource, NoMemory};
 use p9_vi::{Machine, Stop, simulate};
@@ -52,7 +52,7 @@ fn image(alloc: Global, bytes: &Bytes) -> Result<Image, NoMemory>
 }
 
 /// Runs an executable that neither reads nor writes, and gives the text that it ends with.
-pub(crate) fn simulated(alloc: Global, bytes: &Bytes) -> Result<Bytes, NoMemory>
+pub(crate) fn simulated(alloc: Global, bytes: &Bytes) -> Result<ExitText, NoMemory>
     requires { EndsAlone bytes.now }
     ensures { IfOk result (λ text. EndsWith bytes.now text) }
 {
@@ -61,7 +61,7 @@ pub(crate) fn simulated(alloc: Global, bytes: &Bytes) -> Result<Bytes, NoMemory>
     let mut input = no_input(alloc);
     let mut output = no_output(alloc)?;
     match simulate(&mut machine, &mut input, &mut output, BUDGET) {
-        Stop::Exit => copied(alloc, machine.exit_text()),
+        Stop::Exit => Ok(ExitText::of(machine)),
         // It ends within the budget, and makes no call that could fail.
         _ => unreachable!(),
     }

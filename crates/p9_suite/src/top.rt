@@ -4,21 +4,31 @@ ghost use Rattle.p9_suite.specs.declared.answer.Answer.{Answer};
 ghost use Rattle.p9_suite.specs.Answers.{message, status};
 ghost use Rattle.p9_suite.specs.Commands.{command_of};
 ghost use Rattle.p9_suite.specs.Reports.{Tells};
-ghost use Rattle.p9_suite.specs.Suite.{CommandStores, SuiteDoes, CallsMade, StatusSays, Headline, doing, objects};
+ghost use Rattle.p9_suite.specs.Suite.{CommandMakes, CommandTells, SuiteDoes, CallsMade, StatusSays, Headline, RunsNone, ViSays, doing, objects, fault_counts};
 
 use crate::answer::Answer;
 use crate::command::{Command, command_of};
 use crate::report::{report, status};
 use crate::run::run;
+use crate::vi::vi;
 use p9_base::{Files, Sink, Source, Words};
 use std::alloc::Global;
 
 // What the command of the words answers.
-fn answer<F: Files>(alloc: Global, words: &Words, files: &mut F) -> Answer
-    ensures { CommandStores F.did files.old files.new (command_of words.now) result }
+fn answer<I: Source, O: Sink, F: Files>(
+    alloc: Global,
+    words: &Words,
+    input: &mut I,
+    out: &mut O,
+    files: &mut F,
+) -> Answer
+    ensures makes { CommandMakes I.did O.did F.did input.old out.old files.old input.new out.new files.new (command_of words.now) result }
+    ensures tells { CommandTells (command_of words.now) (F.held files.old)
+        (I.left input.old) (I.left input.new) (O.sofar out.old) (O.sofar out.new) result }
 {
     match command_of(words) {
         Some(Command::Run(file)) => run(alloc, file, files),
+        Some(Command::Vi { budget, file }) => vi(alloc, file, budget, input, out, files),
         None => Answer::Usage,
     }
 }
@@ -44,18 +54,22 @@ pub fn suite<I: Source, O: Sink, E: Sink, F: Files>(
     ensures headline { Headline words.now (F.held files.old) (F.held files.new) result }
 
     // The causes of the statuses, in plain words.
-    ensures says { StatusSays words.now (F.held files.old) (F.held files.new) (F.faults files.old) (F.faults files.new) result }
+    ensures says { StatusSays words.now (F.held files.old) (F.held files.new)
+        (fault_counts (I.faults input.old) (O.faults out.old) (F.faults files.old))
+        (fault_counts (I.faults input.new) (O.faults out.new) (F.faults files.new)) result }
 
     // No call is made behind one that failed.
     ensures calls { CallsMade (doing I.did O.did F.did) (objects input.old out.old files.old) (objects input.new out.new files.new) result }
 
-    // No program of the form reads or writes.
-    ensures input { input.new ≡ input.old }
-    ensures out { out.new ≡ out.old }
+    // The answer of `vi` is that of the run of the file's bytes at the budget, for the input that was left.
+    ensures vi { ViSays words.now (F.held files.old) (I.left input.old) (I.left input.new) (O.sofar out.old) (O.sofar out.new) result
+        (λ line. Tells E.sofar E.faults err.old err.new line) }
+
+    // No program of the form that `run` takes reads or writes.
+    ensures input { RunsNone (command_of words.now) → input.new ≡ input.old }
+    ensures out { RunsNone (command_of words.now) → out.new ≡ out.old }
 {
-    let _ = input;
-    let _ = out;
-    let answer = answer(alloc, words, files);
+    let answer = answer(alloc, words, input, out, files);
     report(err, &answer);
     status(&answer)
 }

@@ -1,0 +1,8 @@
+use Rattle.p9_suite.proofs.ViLemmas.{simulated_tells}
+use Rattle.p9_suite.proofs.vi.simulate_file.Goals as goal
+
+pub returns-in-Ok-clause-tells : goal.returns-in-Ok-clause-tells
+returns-in-Ok-clause-tells g c =
+    simulated_tells c.args.name c.args.file.now c.args.budget c.in-Ok.ensures.start.0 c.simulate-stop.result c.in-Ok.machine c.simulate-stop.new.m c.answer_of.result
+    (g.I.Source.left c.args.input.now) (g.I.Source.left c.simulate-stop.new.input) (g.O.Sink.sofar c.args.out.now) (g.O.Sink.sofar c.simulate-stop.new.out)
+    c.in-Ok.ensures.start.1 c.in-Ok.ensures.start.2 c.answer_of.ensures c.simulate-stop.ensures.runs
