@@ -1,1 +1,12 @@
+pub mod Plays
+pub mod Calls
+pub mod Outputs
+pub mod Later
+pub mod Fitting
+pub mod Runs
+pub mod Variables
+pub mod FormPlays
+pub mod FormCalls
+pub mod FormObjects
+pub mod Examples
 pub mod Exits

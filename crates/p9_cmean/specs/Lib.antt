@@ -1,3 +1,15 @@
+pub mod Cells
+pub mod Plays
+pub mod Turns
+pub mod Access
+pub mod SystemCalls
+pub mod Joins
+pub mod Union
+pub mod Expressions
+pub mod Statements
+pub mod CRun
+pub mod Examples
+pub mod PlayLaws
 pub mod Objects
 pub mod Calls
 pub mod Run

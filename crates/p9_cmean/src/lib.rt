@@ -4,6 +4,13 @@
 
 ghost use Rattle.p9_cmean.specs.Laws.{RunsOfExits};
 
+mod laws;
+
+pub use laws::{
+    bind_is_associative, calls_take_turns, depth_is_enough, loops_follow, loops_last, output_grows,
+    runs_go_on, runs_of_form,
+};
+
 /// An operation that C leaves undefined.
 #[derive(Clone, Copy, Debug, PartialEq, Eq, Drop)]
 pub enum Cause {

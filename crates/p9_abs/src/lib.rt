@@ -1,0 +1,13 @@
+//! Abstract instructions, the functions and modules that are made of them, and what an instruction
+//! weighs.
+#![tactic(auto)]
+
+mod instructions;
+mod modules;
+mod weights;
+
+pub use instructions::{
+    AFunction, Abs, Autos, Code, Depths, Op, Operand, Operands, Shape, TextDef,
+};
+pub use modules::{AModule, Body, DataPiece, Pieces, Symbol, Symbols};
+pub use weights::{shape_of, weight};

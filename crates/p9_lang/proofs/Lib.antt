@@ -1,0 +1,4 @@
+pub mod Nodes
+pub mod Sources
+pub mod Examples
+pub mod Labels

@@ -1,0 +1,9 @@
+use Rattle.p9_names.specs.Answers.{linked}
+use Rattle.p9_names.proofs.Exactness.{refused_exactly, joined_exactly}
+use Rattle.p9_names.proofs.joining.resolve.Goals as goal
+
+pub returns-clause-refused_exactly : goal.returns-clause-refused_exactly
+returns-clause-refused_exactly c = refused_exactly (linked c.args.modules.now.items) c.join.result c.join.ensures.joined c.join.ensures.refused
+
+pub returns-clause-joined_exactly : goal.returns-clause-joined_exactly
+returns-clause-joined_exactly c = joined_exactly (linked c.args.modules.now.items) c.join.result c.join.ensures.refused
