@@ -155,11 +155,11 @@ struct Parts<'a> {
     behind: usize,
 }
 
-// An executable with nothing behind its instructions.
-fn plain(text: &[u32]) -> Parts<'_> {
+// An executable with nothing behind its instructions, which have so many bytes.
+fn plain(size: u32, text: &[u32]) -> Parts<'_> {
     Parts {
         magic: 0x407,
-        size: (text.len() as u32).wrapping_mul(4),
+        size,
         text,
         lines: 0,
         behind: 0,
@@ -178,55 +178,63 @@ fn file_of(alloc: Global, parts: Parts<'_>) -> Result<Vec<u8>, AllocError> {
     Ok(file)
 }
 
+const GOOD: Parts<'static> = Parts {
+    magic: 0x407,
+    size: 12,
+    text: &[0x27BD_FFF0, 0x2401_0008, 0xC],
+    lines: 12,
+    behind: 12,
+};
+
 #[test]
-fn simulations(rt: HostRuntime) -> Result<(), Fail> {
+fn refusals(rt: HostRuntime) -> Result<(), Fail> {
     let alloc = rt.alloc();
-    let text = [0x27BD_FFF0, 0x2401_0008, 0xC];
-    let good = Parts {
-        magic: 0x407,
-        size: 12,
-        text: &text,
-        lines: 12,
-        behind: 12,
-    };
-    let short = Parts { behind: 11, ..good };
+    let short = Parts { behind: 11, ..GOOD };
     let other = Parts {
         magic: 0x1EB,
-        ..good
+        ..GOOD
     };
-    let odd = Parts { size: 10, ..good };
-    let call = [0x27BD_FFF0, 0x2401_0009, 0xC];
-    let load = [0x8FA1_FFFC, 0x20_0821];
-    let pair = [0x812, 0, 0x18];
-    let slot = [0x800_0408, 0x800_0408];
-    let rows: [(&[u8], Parts<'_>, u8, &[u8]); 17] = [
-        (b"vi p.out", good, 0, b""),
+    let odd = Parts { size: 10, ..GOOD };
+    let rows: [(&[u8], Parts<'_>, u8, &[u8]); 10] = [
+        (b"vi p.out", GOOD, 0, b""),
+        (b"vi -n 1 p.out", GOOD, 12, b"budget 1\n"),
         (b"vi p.out", short, 13, b"p.out: 51 ShortFile 56\n"),
         (b"vi p.out", other, 13, b"p.out: 50 BadMagic 491\n"),
         (b"vi p.out", odd, 13, b"p.out: 52 BadSegment\n"),
-        (b"vi p.out", plain(&call), 11, b"halt BadCall 9 00001028\n"),
-        (b"vi p.out", plain(&load), 11, b"halt LoadHazard 00001024\n"),
-        (b"vi p.out", plain(&pair), 11, b"halt HiLoHazard 00001028\n"),
-        (b"vi p.out", plain(&slot), 11, b"halt SlotBranch 00001024\n"),
-        (
-            b"vi p.out",
-            plain(&[0x8C01_0000]),
-            11,
-            b"halt BadAddress 00000000 00001020\n",
-        ),
-        (b"vi p.out", plain(&[0x1A]), 11, b"halt Divide 00001020\n"),
-        (b"vi -n 1 p.out", good, 12, b"budget 1\n"),
-        (b"vi -n 4294967295 p.out", good, 0, b""),
-        (b"vi -n 4294967296 p.out", good, 2, b"usage\n"),
-        (b"vi -n 1 -n 1 p.out", good, 2, b"usage\n"),
-        (b"vi -n p.out", good, 2, b"usage\n"),
-        (b"vi p.out p.out", good, 2, b"usage\n"),
-        (b"vi q.out", good, 6, b"q.out: absent\n"),
+        (b"vi -n 4294967296 p.out", GOOD, 2, b"usage\n"),
+        (b"vi -n 1 -n 1 p.out", GOOD, 2, b"usage\n"),
+        (b"vi -n p.out", GOOD, 2, b"usage\n"),
+        (b"vi p.out p.out", GOOD, 2, b"usage\n"),
+        (b"vi q.out", GOOD, 6, b"q.out: absent\n"),
     ];
     for (line, parts, status, err) in rows {
         let file = file_of(alloc, parts)?;
         let outcome = result_of(alloc, line, b"p.out", &file, NONE)?;
         assert_eq!(rt; outcome.status, status);
+        assert_eq!(rt; outcome.err.as_slice(), err);
+    }
+    Ok(())
+}
+
+#[test]
+fn halts(rt: HostRuntime) -> Result<(), Fail> {
+    let alloc = rt.alloc();
+    let rows: [(u32, &[u32], &[u8]); 6] = [
+        (
+            12,
+            &[0x27BD_FFF0, 0x2401_0009, 0xC],
+            b"halt BadCall 9 00001028\n",
+        ),
+        (8, &[0x8FA1_FFFC, 0x20_0821], b"halt LoadHazard 00001024\n"),
+        (12, &[0x812, 0, 0x18], b"halt HiLoHazard 00001028\n"),
+        (8, &[0x800_0408, 0x800_0408], b"halt SlotBranch 00001024\n"),
+        (4, &[0x8C01_0000], b"halt BadAddress 00000000 00001020\n"),
+        (4, &[0x1A], b"halt Divide 00001020\n"),
+    ];
+    for (size, text, err) in rows {
+        let file = file_of(alloc, plain(size, text))?;
+        let outcome = result_of(alloc, b"vi p.out", b"p.out", &file, NONE)?;
+        assert_eq!(rt; outcome.status, 11);
         assert_eq!(rt; outcome.err.as_slice(), err);
     }
     Ok(())
@@ -262,14 +270,14 @@ fn streams(rt: HostRuntime) -> Result<(), Fail> {
         0xC,
     ];
     let first: &[u64] = &[0];
-    let rows: [(&[u32], &[u64], &[u64], u8, &[u8], &[u8]); 4] = [
-        (&reads, &[], first, 0, b"", b""),
-        (&reads, first, &[], 7, b"read fault\n", b""),
-        (&writes, first, &[], 0, b"", b"\x27\xBD\xFF\xF0"),
-        (&writes, &[], first, 8, b"write fault\n", b""),
+    let rows: [(u32, &[u32], &[u64], &[u64], u8, &[u8], &[u8]); 4] = [
+        (36, &reads, &[], first, 0, b"", b""),
+        (36, &reads, first, &[], 7, b"read fault\n", b""),
+        (48, &writes, first, &[], 0, b"", b"\x27\xBD\xFF\xF0"),
+        (48, &writes, &[], first, 8, b"write fault\n", b""),
     ];
-    for (text, input, out, status, err, written) in rows {
-        let file = file_of(alloc, plain(text))?;
+    for (size, text, input, out, status, err, written) in rows {
+        let file = file_of(alloc, plain(size, text))?;
         let fails = Fails {
             input,
             out,
