@@ -1,18 +1,17 @@
 -- The executable of a text keeps its program's meaning, and ends by itself.
-use Rattle.std.proofs.Common.{◌≡◌, ◌≢◌, ℕ, ◌+◌, ◌-◌, ◌%◌, ◌≤◌, ◌<◌, ◌^◌, zero, suc, List, [], ◌∷◌, ◌++◌, All, length, replicate, Option, Some, None, IsSomeAnd, Result, Ok, option_map, slice_index_or, refl, sym, ap, ◌∙◌, subst, arith, length-append, append_assoc, append-nil, rules}
-use Rattle.std.proofs.lemmas.Grind.{common_steps}
+use Rattle.std.proofs.Common.{◌≡◌, ◌≢◌, ℕ, ◌+◌, ◌-◌, ◌%◌, ◌≤◌, ◌<◌, zero, suc, List, [], ◌∷◌, ◌++◌, All, length, replicate, Some, IsSomeAnd, Ok, option_map, slice_index_or, refl, sym, ap, ◌∙◌, subst, arith, length-append, append_assoc, append-nil}
 use Rattle.std.proofs.lemmas.List.{length-replicate}
 use Rattle.p9_aout.specs.Image.{ImageParts, image_of}
 use Rattle.p9_cmean.specs.Laws.{exits_with}
 use Rattle.p9_cmean.specs.Run.{crun, Ended, Out}
-use Rattle.p9_cmean.proofs.Exits.{out_of_turns, ended_with_text}
+use Rattle.p9_cmean.proofs.Exits.{ended_with_text}
 use Rattle.p9_r3k.specs.declared.halt.Ending.TheVariants.{Running}
 use Rattle.p9_r3k.specs.Start.{zeros, start}
 use Rattle.p9_r3k.specs.Machine.{State, run, exit_text}
 use Rattle.p9_vi.specs.Run.{vrun, started, IsExited, HasExited, IsRunning}
 use Rattle.p9_suite.specs.Form.{IsText, IsTextByte}
 use Rattle.p9_suite.specs.Headline.{KeepsMeaning}
-use Rattle.p9_suite.specs.Ends.{EndsAlone, EndsWith, budget}
+use Rattle.p9_suite.specs.Ends.{EndsAlone}
 use Rattle.p9_suite.specs.Program.{code, data_of, parts_for}
 use Rattle.p9_suite.proofs.Runs.{IsLow, HoldsText, begun, ended, stored, runs_one, runs_on, ended_text, OnlyExits, only_exits}
 

@@ -1,12 +1,11 @@
 -- A run that has exited stays, so it exits with one text.
-use Rattle.std.proofs.Common.{◌≡◌, ℕ, ◌+◌, ◌≤◌, zero, suc, List, [], Option, Some, None, IsSomeAnd, Result, Ok, Err, option_map, refl, sym, ap, ◌∙◌, subst, arith}
+use Rattle.std.proofs.Common.{◌≡◌, ℕ, ◌+◌, zero, suc, List, [], IsSomeAnd, Result, Ok, Err, option_map, refl, sym, ap, ◌∙◌, arith}
 use Rattle.p9_aout.specs.Image.{ImageParts, image_of}
 use Rattle.p9_aout.specs.declared.format.AoutFault.{AoutFault}
 use Rattle.p9_r3k.specs.Machine.{State, going, step, run, exit_text}
 use Rattle.p9_r3k.specs.declared.halt.Ending.{Ending}
 use Rattle.p9_r3k.specs.declared.halt.Ending.TheVariants.{Running, Exited, Halted}
 use Rattle.p9_vi.specs.Run.{vrun, start_of, started, IsExited, HasExited}
-use Rattle.p9_cmean.specs.Laws.{exits_with}
 use Rattle.p9_cmean.proofs.Exits.{ended_with_text}
 use Rattle.p9_suite.specs.Form.{IsText}
 use Rattle.p9_suite.specs.Ends.{EndsWith, budget}

@@ -1,9 +1,9 @@
 -- A text that is put piece by piece.
-use Rattle.std.proofs.Common.{◌≡◌, ℕ, ◌+◌, ◌-◌, ◌≤◌, ◌<◌, min, max, List, [], ◌∷◌, ◌++◌, length, take, drop, Option, Some, None, IfSome, Bool, true, false, MatchBool, refl, sym, ap, ◌∙◌, subst, arith, append_assoc, length-append, append-nil, inl, inr}
+use Rattle.std.proofs.Common.{◌≡◌, ℕ, ◌+◌, ◌-◌, ◌≤◌, List, [], ◌++◌, length, take, drop, Option, Some, None, IfSome, Bool, true, false, MatchBool, refl, sym, ap, ◌∙◌, subst, arith, append_assoc, length-append, append-nil, inl, inr}
 use Rattle.std.proofs.lemmas.List.{take-append-drop, take-append-le}
 use Rattle.std.proofs.lemmas.Grind.{common_steps}
 use Rattle.std.proofs.Math.Seq.{take-append_seam, take-append-add}
-use Rattle.p9_base.specs.Outside.{Puts, PutCause, Rose}
+use Rattle.p9_base.specs.Outside.{Puts, PutCause}
 use Rattle.p9_base.specs.declared.outside.Put.TheVariants.{Wrote, Failed}
 use Rattle.p9_suite.specs.Reports.{Whole, Cut, Tells}
 

@@ -1,5 +1,5 @@
 -- How the answers of `run` come.
-use Rattle.std.proofs.Common.{◌≡◌, ℕ, List, [], ◌∷◌, Result, Ok, Err, inl, inr, refl, sym, ◌∙◌, ap, subst, map}
+use Rattle.std.proofs.Common.{◌≡◌, ℕ, List, [], ◌∷◌, Ok, Err, inl, inr, refl, sym, ◌∙◌, ap, subst, map}
 use Rattle.p9_base.specs.Outside.{FileCall, ReadCall, WriteCall}
 use Rattle.p9_base.specs.declared.outside.Got.TheVariants as got
 use Rattle.p9_base.specs.declared.outside.FileFault.TheVariants as fault
@@ -9,7 +9,7 @@ use Rattle.p9_suite.specs.declared.answer.Answer.{Answer}
 use Rattle.p9_suite.specs.declared.answer.Answer.TheVariants.{Ended, Usage, Absent, ReadFault, WriteFault, StoreFault, Memory, Halted, Spent, BadMagic, ShortFile, BadSegment, NotBuilt}
 use Rattle.p9_suite.specs.Form.{HasForm, HasNoForm}
 use Rattle.p9_suite.specs.Ends.{EndsWith}
-use Rattle.p9_suite.specs.RunCommand.{IsProgram, output_name, read_file, wrote, StoreDid, StoreBuilds, StoreRuns, ReadsAndBuilds, BuildCalls, RunCalls, RunDoes}
+use Rattle.p9_suite.specs.RunCommand.{IsProgram, output_name, read_file, wrote, StoreDid, StoreBuilds, StoreRuns, BuildCalls, RunCalls, RunDoes}
 
 -- Of a program that is built and run
 

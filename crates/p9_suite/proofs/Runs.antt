@@ -1,5 +1,5 @@
 -- The run of a machine that ends with a text.
-use Rattle.std.proofs.Common.{◌≡◌, ◌≢◌, ℕ, ◌+◌, ◌-◌, ◌*◌, ◌/◌, ◌%◌, ◌≤◌, ◌<◌, ◌^◌, zero, suc, List, [], ◌∷◌, ◌++◌, All, length, take, drop, length-append, append_assoc, replicate, get_or, Option, Some, None, Ok, Bool, true, false, not, refl, sym, ap, ◌∙◌, subst, arith, eqb, ltb, leb}
+use Rattle.std.proofs.Common.{◌≡◌, ◌≢◌, ℕ, ◌+◌, ◌-◌, ◌≤◌, ◌<◌, ◌^◌, zero, suc, List, [], ◌∷◌, ◌++◌, All, length, take, drop, length-append, append_assoc, replicate, Some, Ok, true, false, not, refl, sym, ap, ◌∙◌, subst, arith, eqb, ltb}
 use Rattle.std.proofs.lemmas.Bool.Decides.{nat_tests}
 use Rattle.std.specs.List.{position, prefix_len}
 use Rattle.std.proofs.Math.Seq.{take-length}

@@ -1,5 +1,5 @@
 -- What the simulation of an executable that ends by itself comes to.
-use Rattle.std.proofs.Common.{◌≡◌, ℕ, List, [], Option, Some, None, IsSomeAnd, Result, Ok, Err, IfOk, option_map, refl, sym, ap, ◌∙◌, subst}
+use Rattle.std.proofs.Common.{◌≡◌, ℕ, List, [], Option, Some, IsSomeAnd, Result, Ok, Err, option_map, refl, sym, ap, ◌∙◌, subst}
 use Rattle.p9_aout.specs.Image.{ImageParts, image_of}
 use Rattle.p9_aout.specs.declared.format.AoutFault.{AoutFault}
 use Rattle.p9_r3k.specs.Memory.{Core}

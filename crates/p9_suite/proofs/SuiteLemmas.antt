@@ -1,6 +1,6 @@
 -- What the suite's answers say of its words, its store and its status.
 use Rattle.std.proofs.Common.{◌≡◌, ◌≢◌, ◌⊎◌, ℕ, List, [], ◌∷◌, map, Option, Some, None, IfSome, IsSomeAnd, Result, Ok, Err, inl, inr, refl, sym, ap, ◌∙◌, subst}
-use Rattle.p9_base.specs.Outside.{Held, Rose, Answers, OthersAsBefore, Reads, Writes, ReadCause, WriteCause, TakeCall, TakeMeans, PutCall, PutMeans, FileCall, ReadCall, WriteCall, FileMeans}
+use Rattle.p9_base.specs.Outside.{Held, Rose, Answers, OthersAsBefore, Reads, Writes, ReadCause, WriteCause, TakeCall, TakeMeans, PutCall, PutMeans, FileCall, ReadCall, FileMeans}
 use Rattle.p9_base.specs.Calls.{StreamCall, Call, OnStream, OnFiles, Objects, Doing, Did, Counts, Counted, CountsSay}
 use Rattle.p9_base.proofs.CallLemmas.{take_counts, put_counts, file_counts, counts_say}
 use Rattle.p9_base.specs.declared.outside.Got.{Got}
@@ -11,7 +11,6 @@ use Rattle.p9_suite.specs.declared.answer.Answer.{Answer}
 use Rattle.p9_suite.specs.declared.answer.Answer.TheVariants.{Ended, Usage, Absent, ReadFault, WriteFault, StoreFault, Memory, Halted, Spent, BadMagic, ShortFile, BadSegment, NotBuilt}
 use Rattle.p9_suite.specs.Answers.{status, message}
 use Rattle.p9_suite.specs.Form.{HasForm, HasNoForm}
-use Rattle.p9_suite.specs.Ends.{EndsWith}
 use Rattle.p9_suite.specs.Commands.{Command, Run, Vi, command_of}
 use Rattle.p9_suite.specs.RunCommand.{IsProgram, output_name, read_file, wrote, StoreDid, StoreRuns, ReadsAndBuilds, BuildCalls, RunCalls}
 use Rattle.p9_suite.specs.ViCommand.{ReadsAndSimulates, ViCalls, ViDoes}

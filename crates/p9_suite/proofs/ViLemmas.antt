@@ -2,7 +2,7 @@
 use Rattle.std.proofs.Common.{◌≡◌, ℕ, zero, suc, List, [], ◌∷◌, ◌++◌, map, append_assoc, append-nil, Option, Some, None, option_map, IfSome, Bool, Result, Ok, Err, ◌⊎◌, inl, inr, refl, sym, ◌∙◌, ap, subst}
 use Rattle.p9_base.specs.Outside.{Held, Answers, TakeCall, PutCall, FileCall, ReadCall}
 use Rattle.p9_base.specs.declared.outside.Got.TheVariants as got
-use Rattle.p9_base.specs.Calls.{StreamCall, StreamsDid, StreamsEnd, OnFiles, OnStream, Doing, Objects}
+use Rattle.p9_base.specs.Calls.{StreamCall, StreamsEnd, OnFiles, OnStream}
 use Rattle.p9_base.proofs.CallLemmas.{Did-streams}
 use Rattle.p9_aout.specs.Image.{ImageParts, image_of}
 use Rattle.p9_aout.specs.declared.format.AoutFault.{AoutFault}
@@ -17,9 +17,9 @@ use Rattle.p9_r3k.specs.declared.halt.Effect.TheVariants as effects
 use Rattle.p9_r3k.specs.declared.halt.Asked.{Asked}
 use Rattle.p9_r3k.specs.declared.halt.Asked.TheVariants as asks
 use Rattle.p9_r3k.specs.Effects.{effect_of, reads_pair}
-use Rattle.p9_r3k.specs.Machine.{State, state, asked, fetched, called, acted, executed, going, step, run, exit_text}
-use Rattle.p9_vi.specs.Run.{vrun, start_of, started, IsExited}
-use Rattle.p9_vi.specs.Stops.{Runs, RunsWhole, Told, StandsAt, stop_of, stop_failure}
+use Rattle.p9_r3k.specs.Machine.{State, state, asked, fetched, called, acted, executed, going, step, run}
+use Rattle.p9_vi.specs.Run.{vrun, start_of, started}
+use Rattle.p9_vi.specs.Stops.{Runs, RunsWhole, Told, stop_of, stop_failure}
 use Rattle.p9_vi.specs.Streams.{StreamsRan}
 use Rattle.p9_vi.specs.declared.stop.Stop.{Stop}
 use Rattle.p9_vi.specs.declared.stop.Stop.TheVariants as stops

@@ -1,7 +1,6 @@
 -- What the command `run` does: the calls that it makes in order, and its answer.
 use Rattle.std.specs.Prelude.{◌≡◌, ℕ, List, [], ◌∷◌, map, Result, Ok, Err, ◌⊎◌, codes}
 use Rattle.p9_base.specs.Outside.{FileCall, ReadCall, WriteCall}
-use Rattle.p9_base.specs.declared.outside.Got.{Got}
 use Rattle.p9_base.specs.declared.outside.Got.TheVariants as got
 use Rattle.p9_base.specs.declared.outside.FileFault.{FileFault}
 use Rattle.p9_base.specs.declared.outside.FileFault.TheVariants as fault

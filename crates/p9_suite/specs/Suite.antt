@@ -1,5 +1,5 @@
 -- What the suite does for a command line.
-use Rattle.std.specs.Prelude.{◌≡◌, ◌≢◌, ◌↔◌, ◌⊎◌, ℕ, List, [], ◌∷◌, Option, Some, None, IfSome, IsSomeAnd, if◌then◌else◌, ◌==◌}
+use Rattle.std.specs.Prelude.{◌≡◌, ◌≢◌, ◌↔◌, ◌⊎◌, ℕ, List, Option, Some, None, IfSome, IsSomeAnd, if◌then◌else◌, ◌==◌}
 use Rattle.p9_base.specs.Outside.{Held, Rose, OthersAsBefore, TakeCall, PutCall, FileCall}
 use Rattle.p9_base.specs.Calls.{Call, Failing, Input, Out, Store, Objects, Doing, Did, CallsEnd}
 use Rattle.p9_cmean.specs.Laws.{exits_with}

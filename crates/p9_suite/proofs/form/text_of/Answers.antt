@@ -1,6 +1,6 @@
 use Rattle.std.proofs.Common.{◌≡◌, false, true}
-use Rattle.p9_suite.specs.Form.{IsText, HasForm}
-use Rattle.p9_suite.proofs.Forms.{no_opening, no_closing, text_is, has_form}
+use Rattle.p9_suite.specs.Form.{IsText}
+use Rattle.p9_suite.proofs.Forms.{no_opening, no_closing, text_is}
 use Rattle.p9_suite.proofs.form.text_of.Goals as goal
 
 pub returns-in_default : goal.returns-in_default

@@ -1,4 +1,4 @@
-use Rattle.std.proofs.Common.{List, ℕ, sym, ◌∙◌, subst}
+use Rattle.std.proofs.Common.{List, ℕ, ◌∙◌, subst}
 use Rattle.p9_suite.specs.Form.{HasForm, HasNoForm}
 use Rattle.p9_suite.proofs.RunLemmas.{ran_built, ran_not_built}
 use Rattle.p9_suite.proofs.run.run.Goals as goal

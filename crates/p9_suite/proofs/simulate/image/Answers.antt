@@ -1,4 +1,4 @@
-use Rattle.std.proofs.Common.{◌≡◌, Err, sym, ap, ◌∙◌}
+use Rattle.std.proofs.Common.{Err, sym, ap, ◌∙◌}
 use Rattle.p9_aout.specs.Image.{image_of}
 use Rattle.p9_aout.specs.declared.format.AoutFault.TheVariants.{BadMagic, ShortFile, BadSegment}
 use Rattle.p9_suite.proofs.Simulations.{has_image}
