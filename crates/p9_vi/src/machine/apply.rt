@@ -52,6 +52,7 @@ impl Machine {
     }
 
     // Applies an effect, but for what a system call asks.
+    #[inline(always)]
     pub(super) fn apply(&mut self, effect: Effect, reader: bool)
         requires { CanApply effect self.old }
         ensures { self.new ≡ applied effect self.old reader }

@@ -18,6 +18,7 @@ use p9_r3k::{Effect, HaltCause, Inst};
 
 impl Machine {
     // What an instruction does to this machine.
+    #[inline(always)]
     pub(super) fn effect(&self, i: Inst) -> Effect
         requires { Fits i }
         ensures exact { result ≡ effect_of i self.now }

@@ -10,6 +10,7 @@ use p9_r3k::{HaltCause, Inst, decode};
 impl Machine {
     // The next instruction, or the stop that comes before its own.
     #[tactic(auto, unfolding(p9_r3k::specs::Machine::fetched))]
+    #[inline(always)]
     pub(super) fn fetch(&self) -> Result<Inst, HaltCause>
         ensures exact { result ≡ fetched self.now }
         ensures fits { IfOk result Fits }
