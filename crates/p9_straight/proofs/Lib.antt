@@ -1,0 +1,2 @@
+pub mod FormRun
+pub mod Placed

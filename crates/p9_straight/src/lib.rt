@@ -1,0 +1,7 @@
+//! Straight code for files that share variables: data and code at addresses that are fixed first,
+//! and the proof that the executable keeps the meaning of the files.
+#![tactic(auto)]
+
+mod building;
+
+pub use building::compile;
