@@ -1,4 +1,4 @@
--- A run that has exited stays, so it exits with one text.
+-- A run that has exited stays, so it exits with one output and one text.
 use Rattle.std.proofs.Common.{◌≡◌, ℕ, ◌+◌, zero, suc, List, [], IsSomeAnd, Result, Ok, Err, option_map, refl, sym, ap, ◌∙◌, arith}
 use Rattle.p9_aout.specs.Image.{ImageParts, image_of}
 use Rattle.p9_aout.specs.declared.format.AoutFault.{AoutFault}
@@ -6,11 +6,6 @@ use Rattle.p9_r3k.specs.Machine.{State, going, step, run, exit_text}
 use Rattle.p9_r3k.specs.declared.halt.Ending.{Ending}
 use Rattle.p9_r3k.specs.declared.halt.Ending.TheVariants.{Running, Exited, Halted}
 use Rattle.p9_vi.specs.Run.{vrun, start_of, started, IsExited, HasExited}
-use Rattle.p9_cmean.proofs.Exits.{ended_with_text}
-use Rattle.p9_suite.specs.Form.{IsText}
-use Rattle.p9_suite.specs.Ends.{EndsWith, budget}
-use Rattle.p9_suite.specs.RunCommand.{IsProgram}
-use Rattle.p9_suite.proofs.Compiled.{no_zero_byte}
 
 going_stays : (e : Ending) (s : State) → IsExited e → going e s ≡ s
 going_stays Running s x = absurd x
@@ -37,17 +32,14 @@ same_end m n s x y =
 abbrev Ends : State → (output text : List ℕ) → Type 0
 Ends s output text = IsExited s.core.ending × (exit_text s.core ≡ text) × (s.out ≡ output)
 
-one_text : (r : Result ImageParts AoutFault) (input : List ℕ) (m n : ℕ) (output text other end : List ℕ) → IsSomeAnd (option_map (run m) (started r input)) (λ s. Ends s output text) → IsSomeAnd (option_map (run n) (started r input)) (λ s. Ends s other end) → text ≡ end
-one_text (Err fault) input m n output text other end a b = absurd a
-one_text (Ok parts) input m n output text other end a b =
-    sym a.1 ∙ (ap (λ (s : State). exit_text s.core) (same_end m n (start_of parts input) a.0 b.0) ∙ b.1)
+one_end : (r : Result ImageParts AoutFault) (input : List ℕ) (m n : ℕ) (output text other end : List ℕ) → IsSomeAnd (option_map (run m) (started r input)) (λ s. Ends s output text) → IsSomeAnd (option_map (run n) (started r input)) (λ s. Ends s other end) → (output ≡ other) × (text ≡ end)
+one_end (Err fault) input m n output text other end a b = absurd a
+one_end (Ok parts) input m n output text other end a b =
+    let same : run m (start_of parts input) ≡ run n (start_of parts input) = same_end m n (start_of parts input) a.0 b.0 in (
+      sym a.2 ∙ (ap (λ (s : State). s.out) same ∙ b.2),
+      sym a.1 ∙ (ap (λ (s : State). exit_text s.core) same ∙ b.1),
+    )
 
-pub exits_once : (bytes input : List ℕ) (m n : ℕ) (output text other end : List ℕ) → HasExited bytes input m output text → HasExited bytes input n other end → text ≡ end
+pub exits_once : (bytes input : List ℕ) (m n : ℕ) (output text other end : List ℕ) → HasExited bytes input m output text → HasExited bytes input n other end → (output ≡ other) × (text ≡ end)
 unfolding vrun
-exits_once bytes input m n output text other end a b = one_text (image_of bytes) input m n output text other end a b
-
--- the text that the run of a program ends with is the program's
-pub printed_is : (text bytes printed : List ℕ) → IsText text → IsProgram text bytes → EndsWith bytes printed → printed ≡ text
-printed_is text bytes printed t k e =
-    let once = k.ended [] 2 [] text (ended_with_text text [] 2 (no_zero_byte text t.characters) (omega arith)) in
-    exits_once bytes [] budget once.0 [] printed [] text (e []) once.1
+exits_once bytes input m n output text other end a b = one_end (image_of bytes) input m n output text other end a b
