@@ -1,2 +1,5 @@
 pub mod FormRun
 pub mod Placed
+pub mod Positions
+pub mod LaidOut
+pub mod TextsLaid
