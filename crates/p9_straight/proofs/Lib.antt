@@ -1,2 +1,3 @@
 pub mod FormRun
 pub mod Placed
+pub mod MachineSteps
