@@ -1,3 +1,6 @@
 pub mod FormRun
 pub mod Placed
 pub mod MachineSteps
+pub mod MachineCode
+pub mod MachineBytes
+pub mod MachineMemory
