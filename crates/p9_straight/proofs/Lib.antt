@@ -4,3 +4,4 @@ pub mod MachineSteps
 pub mod MachineCode
 pub mod MachineBytes
 pub mod MachineMemory
+pub mod MachineCalls
