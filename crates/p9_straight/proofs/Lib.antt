@@ -5,3 +5,4 @@ pub mod MachineCode
 pub mod MachineBytes
 pub mod MachineMemory
 pub mod MachineCalls
+pub mod MachineWrites

@@ -70,14 +70,14 @@ text_there low text k h =
 all_taken : (xs : List ℕ) (n : ℕ) → n ≡ length xs → take n xs ≡ xs
 all_taken xs n e = ap (λ k. take k xs) e ∙ take-length xs
 
-low_bytes_from : (m : Fixed) (regs low stack : List ℕ) (pc : ℕ) (out : List ℕ) (a n : ℕ) → a < stack_start → bytes_from (standing m regs low stack pc 0 out).core a n ≡ take n (drop (a - text_start) low)
+pub low_bytes_from : (m : Fixed) (regs low stack : List ℕ) (pc : ℕ) (out : List ℕ) (a n : ℕ) → a < stack_start → bytes_from (standing m regs low stack pc 0 out).core a n ≡ take n (drop (a - text_start) low)
 low_bytes_from m regs low stack pc out a n h =
     ap (λ b. if b then take n (drop (a - text_start) low) else take n (drop (a - stack_start) stack)) (below_stack a h)
 
 take_front : (front back : List ℕ) → take (length front) (front ++ back) ≡ front
 take_front front back = grind (arith, common_steps)
 
-take_fewer : (xs ys : List ℕ) (n k : ℕ) → n ≤ k → take k xs ≡ ys → take n xs ≡ take n ys
+pub take_fewer : (xs ys : List ℕ) (n k : ℕ) → n ≤ k → take k xs ≡ ys → take n xs ≡ take n ys
 take_fewer xs ys n k h e = sym (takes n k xs h) ∙ ap (take n) e
   where
     takes : (n k : ℕ) (xs : List ℕ) → n ≤ k → take n (take k xs) ≡ take n xs
