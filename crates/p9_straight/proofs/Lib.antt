@@ -6,3 +6,5 @@ pub mod MachineBytes
 pub mod MachineMemory
 pub mod MachineCalls
 pub mod MachineWrites
+pub mod MachineTurns
+pub mod MachineStatements
