@@ -8,3 +8,4 @@ pub mod MachineCalls
 pub mod MachineWrites
 pub mod MachineTurns
 pub mod MachineStatements
+pub mod MachineText
