@@ -9,3 +9,5 @@ pub mod MachineWrites
 pub mod MachineTurns
 pub mod MachineStatements
 pub mod MachineText
+pub mod MachineStart
+pub mod MachineRun
