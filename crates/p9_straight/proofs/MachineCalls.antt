@@ -1,29 +1,25 @@
 -- The system calls of `main`: their arguments in the stack, what they ask, and the code that makes
 -- them.
-use Rattle.std.proofs.Common.{◌≡◌, ◌≢◌, ℕ, zero, suc, ◌+◌, ◌-◌, ◌*◌, ◌/◌, ◌%◌, ◌^◌, ◌<◌, ◌≤◌, ◌⊎◌, inl, inr, Bool, true, false, not, lit<, List, [], ◌∷◌, ◌++◌, All, length, take, drop, slice_index, slice_set, append_assoc, length-append, length-drop, nat_lt, nat_le, ltb, eqb, Some, Option, Ok, Result, refl, sym, ap, ◌∙◌, subst, arith}
+use Rattle.std.proofs.Common.{◌≡◌, ◌≢◌, ℕ, suc, ◌+◌, ◌-◌, ◌%◌, ◌^◌, ◌<◌, ◌≤◌, true, false, not, lit<, List, [], ◌∷◌, ◌++◌, All, length, take, drop, slice_index, append_assoc, length-append, length-drop, nat_lt, nat_le, ltb, eqb, Some, Ok, refl, sym, ap, ◌∙◌, arith}
 use Rattle.std.specs.Prelude.{◌==◌, if◌then◌else◌, position}
 use Rattle.std.specs.List.{prefix_len}
 use Rattle.std.proofs.lemmas.Bool.Decides.{nat_tests}
 use Rattle.std.proofs.lemmas.List.{take-append-drop}
 use Rattle.std.proofs.lemmas.Grind.{common_steps}
 use Rattle.std.proofs.Math.Seq.{take-length}
-use Rattle.p9_base.specs.Words.{is_negative, word_sum}
-use Rattle.p9_base.specs.Numbers.{word_at}
 use Rattle.p9_r3k.specs.declared.inst.Inst.{Inst}
-use Rattle.p9_r3k.specs.declared.inst.Inst.TheVariants.{Addiu, Lui, Ori, Sw, Syscall}
-use Rattle.p9_r3k.specs.declared.halt.HaltCause.{HaltCause}
-use Rattle.p9_r3k.specs.declared.halt.Ending.TheVariants.{Exited}
+use Rattle.p9_r3k.specs.declared.inst.Inst.TheVariants.{Addiu, Sw, Syscall}
 use Rattle.p9_r3k.specs.declared.halt.Asked.{Asked}
 use Rattle.p9_r3k.specs.declared.halt.Asked.TheVariants as asks
-use Rattle.p9_r3k.specs.Memory.{Core, text_start, stack_start, stack_end, reg, readable, read_word, word_in, with_word_in, bytes_from}
-use Rattle.p9_r3k.specs.Machine.{State, step, run, advanced, argument, then_one, exits_of, asked_exits, asked_write, asked, called, exit_text}
+use Rattle.p9_r3k.specs.Memory.{Core, text_start, stack_start, stack_end, readable, read_word, word_in, with_word_in, bytes_from}
+use Rattle.p9_r3k.specs.Machine.{State, run, argument, then_one, exits_of, asked_exits, asked, called, exit_text}
 use Rattle.p9_r3k.proofs.Begins.{below_stack}
 use Rattle.p9_straight.specs.Code.{set_register, system_call, exit_code}
 use Rattle.p9_straight.proofs.FormRun.{Values}
 use Rattle.p9_straight.proofs.Placed.{IsTextAt}
-use Rattle.p9_straight.proofs.MachineSteps.{Fixed, standing, IsAt, Room, data_readable, stack_readable, step_addiu, step_sw_stack, step_call, step_write, step_refused}
-use Rattle.p9_straight.proofs.MachineBytes.{length-four, word_stored, word_apart}
-use Rattle.p9_straight.proofs.MachineCode.{Follows, behind, follows_first, follows_then, ran_none, ran_then, ran_both, sets, registers}
+use Rattle.p9_straight.proofs.MachineSteps.{Fixed, standing, Room, data_readable, stack_readable, step_addiu, step_sw_stack, step_call}
+use Rattle.p9_straight.proofs.MachineBytes.{word_stored}
+use Rattle.p9_straight.proofs.MachineCode.{Follows, follows_first, follows_then, ran_none, ran_then, ran_both, sets, registers}
 use Rattle.p9_straight.proofs.MachineMemory.{Memory}
 
 -- Arguments

@@ -1,19 +1,16 @@
 -- Pieces of `main`'s code, and the registers that the machine has behind them.
-use Rattle.std.proofs.Common.{◌≡◌, ◌≢◌, ℕ, zero, suc, ◌+◌, ◌-◌, ◌*◌, ◌/◌, ◌%◌, ◌^◌, ◌<◌, ◌≤◌, Bool, true, false, List, [], ◌∷◌, ◌++◌, length, take, slice_index, slice_set, replicate, length-append, refl, sym, ap, ◌∙◌, subst, arith, add-zero}
-use Rattle.std.specs.Prelude.{◌==◌, bit_or, if◌then◌else◌, Contains}
+use Rattle.std.proofs.Common.{◌≡◌, ℕ, zero, suc, ◌+◌, ◌*◌, ◌/◌, ◌%◌, ◌^◌, ◌<◌, false, List, [], ◌∷◌, ◌++◌, length, slice_index, slice_set, replicate, length-append, refl, sym, ap, ◌∙◌, arith}
+use Rattle.std.specs.Prelude.{◌==◌, bit_or}
 use Rattle.std.proofs.lemmas.Bool.Decides.{nat_tests}
 use Rattle.std.proofs.lemmas.Nat.{or_shifted}
-use Rattle.std.proofs.lemmas.List.{get_or-set_same, length-set}
-use Rattle.p9_base.specs.Numbers.{word_at}
+use Rattle.std.proofs.lemmas.List.{get_or-set_same}
 use Rattle.p9_r3k.specs.declared.inst.Inst.{Inst}
-use Rattle.p9_r3k.specs.declared.inst.Inst.TheVariants.{Addiu, Lui, Ori, Lw, Sw, Sll, Addu, Syscall}
-use Rattle.p9_r3k.specs.Memory.{text_start, with_reg, with_word_in}
+use Rattle.p9_r3k.specs.declared.inst.Inst.TheVariants.{Lui, Ori}
+use Rattle.p9_r3k.specs.Memory.{with_reg}
 use Rattle.p9_r3k.specs.Machine.{State, step, run}
 use Rattle.p9_r3k.proofs.Runs.{run-sum, run-suc, run-zero}
-use Rattle.p9_form.specs.declared.file.Operand.{Operand}
-use Rattle.p9_form.specs.declared.file.Operand.TheVariants.{Variable, Number}
-use Rattle.p9_straight.specs.Code.{set_register, load_operand, store_code, nothing}
-use Rattle.p9_straight.proofs.MachineSteps.{Fixed, standing, IsAt, Room, step_lui, step_ori, step_nothing, step_lw, step_sw}
+use Rattle.p9_straight.specs.Code.{set_register}
+use Rattle.p9_straight.proofs.MachineSteps.{Fixed, standing, IsAt, Room, step_lui, step_ori}
 
 -- Code at an address
 

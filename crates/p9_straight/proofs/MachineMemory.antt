@@ -1,23 +1,22 @@
 -- The variables and texts of a program in the machine's memory, and the code that reads and writes
 -- variables.
-use Rattle.std.proofs.Common.{◌≡◌, ◌≢◌, ℕ, zero, suc, ◌+◌, ◌-◌, ◌*◌, ◌/◌, ◌%◌, ◌^◌, ◌<◌, ◌≤◌, ◌⊎◌, inl, inr, Bool, true, false, ◌&&◌, lit<, List, [], ◌∷◌, ◌++◌, length, take, drop, slice_index, slice_set, refl, sym, ap, ◌∙◌, subst, arith}
+use Rattle.std.proofs.Common.{◌≡◌, ◌≢◌, ℕ, ◌+◌, ◌-◌, ◌/◌, ◌%◌, ◌^◌, ◌<◌, ◌≤◌, ◌⊎◌, inl, inr, Bool, true, false, ◌&&◌, lit<, List, [], ◌∷◌, ◌++◌, length, take, drop, slice_set, refl, sym, ap, ◌∙◌, subst, arith}
 use Rattle.std.specs.Prelude.{◌==◌, if◌then◌else◌, Contains}
 use Rattle.std.proofs.lemmas.Bool.Decides.{nat_tests}
-use Rattle.std.proofs.lemmas.List.{get_or-set_same, length-set}
+use Rattle.std.proofs.lemmas.List.{get_or-set_same}
 use Rattle.p9_base.specs.Numbers.{word_at}
 use Rattle.p9_lang.specs.Form.{same_name}
-use Rattle.p9_r3k.specs.declared.inst.Inst.{Inst}
-use Rattle.p9_r3k.specs.declared.inst.Inst.TheVariants.{Lui, Ori, Lw, Sw, Sll}
+use Rattle.p9_r3k.specs.declared.inst.Inst.TheVariants.{Lw, Sw}
 use Rattle.p9_r3k.specs.Memory.{text_start, with_reg, with_word_in}
-use Rattle.p9_r3k.specs.Machine.{State, step, run}
+use Rattle.p9_r3k.specs.Machine.{State, run}
 use Rattle.p9_form.specs.declared.file.Operand.{Operand}
 use Rattle.p9_form.specs.declared.file.Operand.TheVariants.{Variable, Number}
 use Rattle.p9_straight.specs.Code.{set_register, load_operand, store_code, nothing}
 use Rattle.p9_straight.proofs.FormRun.{Values, operand_value, assigned}
 use Rattle.p9_straight.proofs.Placed.{IsTextAt}
-use Rattle.p9_straight.proofs.MachineSteps.{Fixed, standing, IsAt, Room, step_nothing, step_lw, step_sw}
+use Rattle.p9_straight.proofs.MachineSteps.{Fixed, standing, Room, step_nothing, step_lw, step_sw}
 use Rattle.p9_straight.proofs.MachineBytes.{length-four, word_stored, word_apart, take_before, part_stays, AreApart}
-use Rattle.p9_straight.proofs.MachineCode.{Follows, behind, follows_first, follows_then, ran_none, ran_then, ran_both, sets, with_reg_is, set_twice, registers}
+use Rattle.p9_straight.proofs.MachineCode.{Follows, behind, follows_first, ran_none, ran_then, ran_both, sets, with_reg_is, set_twice, registers}
 
 -- variables hold their values, and the texts of the image are in memory
 pub record Memory (m : Fixed) (place : List ℕ → ℕ) (names : List (List ℕ)) (init : List ℕ) (values : Values) (low : List ℕ) : Type 0 where

@@ -1,6 +1,6 @@
 -- The machine's memory before the first instruction: variables have their first values, and texts
 -- are in their places.
-use Rattle.std.proofs.Common.{◌≡◌, ◌≢◌, ℕ, zero, suc, ◌+◌, ◌-◌, ◌*◌, ◌/◌, ◌%◌, ◌^◌, ◌<◌, ◌≤◌, List, [], ◌∷◌, ◌++◌, length, take, drop, slice_index, append_assoc, length-append, length-drop, refl, sym, ap, ◌∙◌, subst, arith}
+use Rattle.std.proofs.Common.{◌≡◌, ℕ, ◌+◌, ◌-◌, ◌^◌, ◌<◌, ◌≤◌, List, ◌++◌, length, take, drop, slice_index, append_assoc, length-append, length-drop, refl, ap, ◌∙◌, arith}
 use Rattle.std.specs.Prelude.{Contains}
 use Rattle.std.proofs.lemmas.List.{take-append-le, drop-append-le, get_or-append-add}
 use Rattle.std.proofs.Math.Seq.{drop-append-add, take-append_seam}
@@ -9,7 +9,7 @@ use Rattle.p9_r3k.specs.Memory.{text_start}
 use Rattle.p9_r3k.specs.Start.{zeros, page_from, low_bytes}
 use Rattle.p9_r3k.proofs.Begins.{length-zeros, page_from-above, page_from-near, length-low_bytes}
 use Rattle.p9_straight.proofs.FormRun.{Values}
-use Rattle.p9_straight.proofs.Placed.{AreVariables, IsTextAt}
+use Rattle.p9_straight.proofs.Placed.{AreVariables}
 use Rattle.p9_straight.proofs.MachineSteps.{Fixed, Room}
 use Rattle.p9_straight.proofs.MachineMemory.{Memory}
 

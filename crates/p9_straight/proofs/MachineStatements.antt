@@ -1,6 +1,6 @@
 -- The machine runs the code of statements one after another.
-use Rattle.std.proofs.Common.{◌≡◌, ◌≢◌, ℕ, zero, suc, ◌+◌, ◌-◌, ◌*◌, ◌/◌, ◌%◌, ◌^◌, ◌<◌, ◌≤◌, Bool, true, false, lit<, List, [], ◌∷◌, ◌++◌, All, length, take, drop, slice_index, slice_set, append_assoc, length-append, nat_lt, nat_le, Option, Some, None, refl, sym, ap, ◌∙◌, subst, arith}
-use Rattle.std.specs.Prelude.{◌==◌, if◌then◌else◌, Contains, IsTrue, flat_map, unwrap_or, codes}
+use Rattle.std.proofs.Common.{◌≡◌, ℕ, zero, suc, ◌+◌, ◌-◌, ◌%◌, ◌^◌, ◌<◌, ◌≤◌, Bool, true, false, lit<, List, [], ◌∷◌, ◌++◌, length, take, append_assoc, length-append, nat_le, Option, Some, None, refl, sym, ap, ◌∙◌, subst, arith}
+use Rattle.std.specs.Prelude.{if◌then◌else◌, Contains, flat_map}
 use Rattle.std.proofs.lemmas.Bool.Decides.{nat_tests}
 use Rattle.p9_base.specs.Words.{word_sum, is_negative}
 use Rattle.p9_r3k.specs.declared.inst.Inst.{Inst}
@@ -8,21 +8,19 @@ use Rattle.p9_r3k.specs.declared.inst.Inst.TheVariants.{Addu}
 use Rattle.p9_r3k.specs.Memory.{text_start, with_word_in}
 use Rattle.p9_r3k.specs.Machine.{State, run}
 use Rattle.p9_form.specs.declared.file.Operand.{Operand}
-use Rattle.p9_form.specs.declared.file.Operand.TheVariants.{Variable, Number}
 use Rattle.p9_form.specs.declared.file.Statement.{Statement}
 use Rattle.p9_form.specs.declared.file.Statement.TheVariants.{Assign, Write, Exits}
 use Rattle.p9_form.specs.Sharing.{named_by, named_if, names_in}
 use Rattle.p9_straight.specs.Layout.{end_text}
 use Rattle.p9_straight.specs.Code.{load_operand, store_code, exit_code, statement_code, text_after, statements_code}
-use Rattle.p9_straight.proofs.FormRun.{Values, Came, Ends, RunsOut, Fails, operand_value, sum_value, assigned, after_write, statements_run}
-use Rattle.p9_straight.proofs.Placed.{IsTextAt, HasItsText, AreTexts}
+use Rattle.p9_straight.proofs.FormRun.{Values, Came, Ends, Fails, operand_value, sum_value, assigned, after_write, statements_run}
+use Rattle.p9_straight.proofs.Placed.{IsTextAt, AreTexts}
 use Rattle.p9_straight.proofs.MachineSteps.{Fixed, standing, step_addu}
-use Rattle.p9_straight.proofs.MachineBytes.{length-four}
-use Rattle.p9_straight.proofs.MachineCode.{Follows, behind, follows_first, follows_then, ran_none, ran_then, ran_both, registers}
+use Rattle.p9_straight.proofs.MachineCode.{Follows, behind, follows_first, follows_then, ran_then, ran_both, registers}
 use Rattle.p9_straight.proofs.MachineMemory.{Memory, IsKnown, known_word, loads, stores, memory_assigned}
 use Rattle.p9_straight.proofs.MachineCalls.{HasText, has_text, IsStack, with_first, exited, exited_text, exit_by, exits_text, exits_none}
 use Rattle.p9_straight.proofs.MachineWrites.{write_code, with_third, third_size, writes_nothing, writes_front}
-use Rattle.p9_straight.proofs.MachineTurns.{Runs, runs_then, runs_out, ends_by, IsFitOperand, IsFitIf, IsFitText, IsFit, AreFit, AreIn, in_front, in_back, in_first, is_known, no_zero}
+use Rattle.p9_straight.proofs.MachineTurns.{Runs, runs_then, runs_out, ends_by, IsFitText, IsFit, AreFit, AreIn, in_front, in_back, in_first, is_known, no_zero}
 
 -- the address behind two pieces of code
 behind_both : (pc : ℕ) (xs ys : List Inst) → behind pc (xs ++ ys) ≡ behind (behind pc xs) ys

@@ -1,5 +1,5 @@
 -- The machine that runs `main`, and what one instruction of each kind does.
-use Rattle.std.proofs.Common.{◌≡◌, ℕ, zero, suc, ◌+◌, ◌-◌, ◌*◌, ◌/◌, ◌%◌, ◌^◌, ◌<◌, ◌≤◌, Bool, true, false, not, ◌&&◌, ◌||◌, nat_lt, nat_le, List, ◌++◌, length, take, slice_index, Ok, Some, Option, Result, refl, sym, ap, ◌∙◌, arith}
+use Rattle.std.proofs.Common.{◌≡◌, ℕ, ◌+◌, ◌-◌, ◌*◌, ◌%◌, ◌^◌, ◌<◌, ◌≤◌, Bool, true, false, not, ◌&&◌, nat_lt, nat_le, List, ◌++◌, length, take, slice_index, Ok, Some, refl, sym, ap, ◌∙◌, arith}
 use Rattle.std.specs.Prelude.{◌==◌, bit_or, if◌then◌else◌}
 use Rattle.std.proofs.lemmas.Bool.Decides.{nat_tests}
 use Rattle.std.proofs.Math.Seq.{take-length}
@@ -7,16 +7,14 @@ use Rattle.p9_base.specs.Words.{word_sum, shift_left}
 use Rattle.p9_base.specs.Numbers.{word_at, sign_extended}
 use Rattle.p9_r3k.specs.declared.inst.Inst.{Inst}
 use Rattle.p9_r3k.specs.declared.inst.Inst.TheVariants.{Addiu, Lui, Ori, Lw, Sw, Sll, Addu, Syscall}
-use Rattle.p9_r3k.specs.declared.halt.HaltCause.{HaltCause}
-use Rattle.p9_r3k.specs.declared.halt.Ending.{Ending}
 use Rattle.p9_r3k.specs.declared.halt.Ending.TheVariants.{Running}
 use Rattle.p9_r3k.specs.declared.halt.Effect.{Effect}
 use Rattle.p9_r3k.specs.declared.halt.Effect.TheVariants as effects
 use Rattle.p9_r3k.specs.declared.halt.Asked.{Asked}
 use Rattle.p9_r3k.specs.declared.halt.Asked.TheVariants as asks
-use Rattle.p9_r3k.specs.Memory.{Core, text_start, stack_start, stack_end, low_end, reg, with_reg, readable, writable, read_word, with_word, word_in, with_word_in, bytes_from}
-use Rattle.p9_r3k.specs.Effects.{effect_of, load_word, store_word, reads, reads_pair, writes_pair, branches}
-use Rattle.p9_r3k.specs.Machine.{State, advanced, in_text, without_hazard, fetched, asked, called, acted, executed, going, step}
+use Rattle.p9_r3k.specs.Memory.{Core, text_start, stack_start, stack_end, with_reg, readable, writable, read_word, with_word_in, bytes_from}
+use Rattle.p9_r3k.specs.Effects.{effect_of, load_word, store_word, reads, reads_pair, writes_pair}
+use Rattle.p9_r3k.specs.Machine.{State, advanced, without_hazard, fetched, asked, called, acted, executed, going, step}
 use Rattle.p9_r3k.specs.Table.{Fits, word_of, decoded}
 use Rattle.p9_r3k.proofs.Again.{again}
 use Rattle.p9_r3k.proofs.Begins.{word_at-kept, low_read, below_stack}

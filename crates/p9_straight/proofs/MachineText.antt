@@ -1,22 +1,21 @@
 -- The bytes of code are its instructions, at the start of the text and on.
-use Rattle.std.proofs.Common.{◌≡◌, ◌≢◌, ℕ, zero, suc, ◌+◌, ◌-◌, ◌*◌, ◌/◌, ◌%◌, ◌^◌, ◌<◌, ◌≤◌, lit<, List, [], ◌∷◌, ◌++◌, All, length, slice_index, append_assoc, length-append, Option, Some, None, refl, sym, ap, ◌∙◌, subst, arith}
+use Rattle.std.proofs.Common.{◌≡◌, ℕ, ◌+◌, ◌-◌, ◌*◌, ◌/◌, ◌%◌, ◌^◌, ◌<◌, ◌≤◌, lit<, List, [], ◌∷◌, ◌++◌, length, slice_index, append_assoc, length-append, Option, Some, None, refl, sym, ap, ◌∙◌, subst, arith}
 use Rattle.std.specs.Prelude.{Contains, flat_map}
-use Rattle.std.proofs.lemmas.List.{append-nil, get_or-append-add}
+use Rattle.std.proofs.lemmas.List.{get_or-append-add}
 use Rattle.p9_base.specs.Numbers.{word_at, word_bytes}
 use Rattle.p9_r3k.specs.declared.inst.Inst.{Inst}
-use Rattle.p9_r3k.specs.declared.inst.Inst.TheVariants.{Addiu, Lui, Ori, Lw, Sw, Sll, Addu, Syscall}
+use Rattle.p9_r3k.specs.declared.inst.Inst.TheVariants.{Addiu, Lw, Sw, Addu}
 use Rattle.p9_r3k.specs.Memory.{text_start}
 use Rattle.p9_r3k.specs.Table.{Fits, word_of}
 use Rattle.p9_form.specs.declared.file.Operand.{Operand}
 use Rattle.p9_form.specs.declared.file.Operand.TheVariants.{Variable, Number}
 use Rattle.p9_form.specs.declared.file.Statement.{Statement}
 use Rattle.p9_form.specs.declared.file.Statement.TheVariants.{Assign, Write, Exits}
-use Rattle.p9_form.specs.Sharing.{named_by, named_if, names_in}
+use Rattle.p9_form.specs.Sharing.{named_by, names_in}
 use Rattle.p9_straight.specs.Code.{nothing, set_register, load_operand, system_call, store_code, exit_code, statement_code, text_after, statements_code, main_code, code_bytes}
-use Rattle.p9_straight.proofs.Placed.{IsTextAt, HasItsText, AreTexts}
-use Rattle.p9_straight.proofs.MachineSteps.{IsAt}
+use Rattle.p9_straight.proofs.Placed.{HasItsText, AreTexts}
 use Rattle.p9_straight.proofs.MachineCode.{Follows}
-use Rattle.p9_straight.proofs.MachineTurns.{IsFitOperand, IsFitIf, IsFit, AreFit, AreIn, in_front, in_back, in_first}
+use Rattle.p9_straight.proofs.MachineTurns.{IsFitOperand, IsFit, AreFit, AreIn, in_front, in_back, in_first}
 
 -- the fields of an instruction fit, and its word is one
 abbrev pub HasWord : Inst → Type 0
@@ -67,15 +66,17 @@ follows_behind front (i ∷ is) aligned small words =
     let place : text_start + length front - text_start ≡ length front = omega arith in
     let next : text_start + length (front ++ own) ≡ text_start + length front + 4 = omega (arith, longer, four) in
     let rest : Follows ((front ++ own) ++ code_bytes is) (text_start + length (front ++ own)) is =
-    follows_behind (front ++ own) is (omega (arith, longer, four, aligned)) (subst (λ (t : List ℕ). length t ≤ 2 ^ 25) (sym same) small) words.1 in
-    (record {
-      aligned = omega (arith, aligned);
-      from = omega arith;
-      to = omega (arith, size, more, four);
-      small = small;
-      word = ap (λ k. word_at text k) place ∙ word_back front (code_bytes is) (word_of i) words.0.1;
-      fits = words.0.0;
-    }, subst (λ (t : List ℕ). Follows t (text_start + length front + 4) is) same (subst (λ p. Follows ((front ++ own) ++ code_bytes is) p is) next rest))
+    follows_behind (front ++ own) is (omega (arith, longer, four, aligned)) (subst (λ (t : List ℕ). length t ≤ 2 ^ 25) (sym same) small) words.1 in (
+      record {
+        aligned = omega (arith, aligned);
+        from = omega arith;
+        to = omega (arith, size, more, four);
+        small = small;
+        word = ap (λ k. word_at text k) place ∙ word_back front (code_bytes is) (word_of i) words.0.1;
+        fits = words.0.0;
+      },
+      subst (λ (t : List ℕ). Follows t (text_start + length front + 4) is) same (subst (λ p. Follows ((front ++ own) ++ code_bytes is) p is) next rest),
+    )
 
 -- the text is code from its start on
 pub follows_all : (is : List Inst) → length is ≤ 2 ^ 22 → HaveWords is → Follows (code_bytes is) text_start is
@@ -132,9 +133,13 @@ write_words place names at text count places known fit small =
     let three : HaveWords (Sw 29 3 8 ∷ Sw 29 2 12 ∷ system_call 20) =
     (((lit< tt, lit< tt, lit< tt), lit< tt), (((lit< tt, lit< tt, lit< tt), lit< tt), (((lit< tt, lit< tt, lit< tt), lit< tt), ((lit< tt, lit< tt), tt)))) in
     have_both (load_operand place 2 count) (Addiu 0 3 1 ∷ Sw 29 3 4 ∷ (set_register 3 at ++ (Sw 29 3 8 ∷ Sw 29 2 12 ∷ system_call 20)))
-    (load_words place names 2 count (lit< tt) places known fit)
-    (((lit< tt, lit< tt, lit< tt), lit< tt), (((lit< tt, lit< tt, lit< tt), lit< tt),
-    have_both (set_register 3 at) (Sw 29 3 8 ∷ Sw 29 2 12 ∷ system_call 20) (set_words 3 at (lit< tt) small) three))
+    (load_words place names 2 count (lit< tt) places known fit) (
+      ((lit< tt, lit< tt, lit< tt), lit< tt),
+      (
+        ((lit< tt, lit< tt, lit< tt), lit< tt),
+        have_both (set_register 3 at) (Sw 29 3 8 ∷ Sw 29 2 12 ∷ system_call 20) (set_words 3 at (lit< tt) small) three,
+      ),
+    )
 
 statement_words : (place : List ℕ → ℕ) (names : List (List ℕ)) (begin : ℕ) (init : List ℕ) (at : ℕ) (s : Statement) → ArePlaces place names → begin + length init ≤ 2 ^ 32 → HasItsText place names begin init at s → AreIn names (names_in s) → IsFit s → HaveWords (statement_code place at s)
 statement_words place names begin init at (Assign x left right) places small text known fit = assign_words place names at x left right places known fit

@@ -1,16 +1,12 @@
 -- The run of the machine over the code of statements comes to what the values of variables say.
-use Rattle.std.proofs.Common.{◌≡◌, ◌≢◌, ℕ, zero, suc, ◌+◌, ◌-◌, ◌*◌, ◌/◌, ◌%◌, ◌^◌, ◌<◌, ◌≤◌, Bool, true, false, not, ◌&&◌, ◌||◌, lit<, List, [], ◌∷◌, ◌++◌, All, length, take, drop, slice_index, slice_set, get_or, append_assoc, length-append, nat_lt, nat_le, Option, Some, None, refl, sym, ap, ◌∙◌, subst, arith}
-use Rattle.std.specs.Prelude.{◌==◌, if◌then◌else◌, Contains, IsTrue, flat_map, unwrap_or, codes}
+use Rattle.std.proofs.Common.{◌≡◌, ◌≢◌, ℕ, zero, suc, ◌+◌, ◌≤◌, Bool, true, false, ◌&&◌, List, [], ◌∷◌, ◌++◌, All, length, length-append, Option, Some, None, refl, sym, ap, ◌∙◌, subst, arith}
+use Rattle.std.specs.Prelude.{Contains, IsTrue}
 use Rattle.std.specs.List.{list_all}
 use Rattle.std.proofs.Math.ListN.{get_or-append}
 use Rattle.std.proofs.lemmas.List.{get_or-append-add}
-use Rattle.std.proofs.lemmas.Bool.Decides.{nat_tests}
-use Rattle.p9_base.specs.Words.{word_sum, is_negative}
 use Rattle.p9_lang.specs.Form.{is_text_byte}
 use Rattle.p9_r3k.specs.declared.inst.Inst.{Inst}
-use Rattle.p9_r3k.specs.declared.inst.Inst.TheVariants.{Addu}
-use Rattle.p9_r3k.specs.declared.halt.Ending.TheVariants.{Running, Exited}
-use Rattle.p9_r3k.specs.Memory.{text_start}
+use Rattle.p9_r3k.specs.declared.halt.Ending.TheVariants.{Running}
 use Rattle.p9_r3k.specs.Machine.{State, run, exit_text}
 use Rattle.p9_r3k.proofs.Runs.{run-sum, run-zero}
 use Rattle.p9_vi.specs.Run.{IsExited}
@@ -18,16 +14,9 @@ use Rattle.p9_form.specs.declared.file.Operand.{Operand}
 use Rattle.p9_form.specs.declared.file.Operand.TheVariants.{Variable, Number}
 use Rattle.p9_form.specs.declared.file.Statement.{Statement}
 use Rattle.p9_form.specs.declared.file.Statement.TheVariants.{Assign, Write, Exits}
-use Rattle.p9_form.specs.Sharing.{named_by, named_if, names_in}
-use Rattle.p9_straight.specs.Layout.{end_text}
-use Rattle.p9_straight.specs.Code.{load_operand, store_code, exit_code, statement_code, text_after, statements_code}
-use Rattle.p9_straight.proofs.FormRun.{Values, Came, Ends, RunsOut, Fails, operand_value, sum_value, assigned, after_write, statements_run}
-use Rattle.p9_straight.proofs.Placed.{IsTextAt, HasItsText, AreTexts}
-use Rattle.p9_straight.proofs.MachineSteps.{Fixed, standing, step_addu}
-use Rattle.p9_straight.proofs.MachineCode.{Follows, behind, follows_first, follows_then, ran_none, ran_then, ran_both, registers}
-use Rattle.p9_straight.proofs.MachineMemory.{Memory, IsKnown, known_word, loads, stores, memory_assigned}
-use Rattle.p9_straight.proofs.MachineCalls.{HasText, has_text, IsStack, with_first, exited, exited_text, exits_text, exits_none}
-use Rattle.p9_straight.proofs.MachineWrites.{write_code, with_third, third_size, writes_nothing, writes_front}
+use Rattle.p9_form.specs.Sharing.{named_by}
+use Rattle.p9_straight.proofs.FormRun.{Came, Ends, RunsOut, Fails}
+use Rattle.p9_straight.proofs.MachineMemory.{IsKnown}
 
 -- within a limit of steps the machine comes to the same: to the exit, or, where turns are out, to a place where
 -- it goes on, after at least as many steps
@@ -45,13 +34,21 @@ run_on s t n m e = ap (λ u. run m u) (sym e) ∙ sym (run-sum n m s)
 
 runs_after : (came : Came) (s t : State) (n turns later limit : ℕ) → run n s ≡ t → turns ≤ n + later → Runs came t later limit → Runs came s turns (n + limit)
 runs_after (Ends output text) s t n turns later limit e more h =
-    let k : run h.0 t ≡ run (n + h.0) s = run_on s t n h.0 e in
-    (n + h.0, omega (arith, h.1), subst (λ (u : State). IsExited u.core.ending) k h.2,
-    subst (λ (u : State). exit_text u.core ≡ text) k h.3, subst (λ (u : State). u.out ≡ output) k h.4)
+    let k : run h.0 t ≡ run (n + h.0) s = run_on s t n h.0 e in (
+      n + h.0,
+      omega (arith, h.1),
+      subst (λ (u : State). IsExited u.core.ending) k h.2,
+      subst (λ (u : State). exit_text u.core ≡ text) k h.3,
+      subst (λ (u : State). u.out ≡ output) k h.4,
+    )
 runs_after (RunsOut output) s t n turns later limit e more h =
-    let k : run h.0 t ≡ run (n + h.0) s = run_on s t n h.0 e in
-    (n + h.0, omega (arith, h.1, more), omega (arith, h.2),
-    subst (λ (u : State). u.core.ending ≡ Running) k h.3, subst (λ (u : State). u.out ≡ output) k h.4)
+    let k : run h.0 t ≡ run (n + h.0) s = run_on s t n h.0 e in (
+      n + h.0,
+      omega (arith, h.1, more),
+      omega (arith, h.2),
+      subst (λ (u : State). u.core.ending ≡ Running) k h.3,
+      subst (λ (u : State). u.out ≡ output) k h.4,
+    )
 runs_after Fails s t n turns later limit e more h = tt
 
 -- a piece of code, and then what is behind it
@@ -61,15 +58,23 @@ runs_then came xs ys s t turns later e more h =
 
 -- out of turns at once
 pub runs_out : (s : State) (limit : ℕ) (output : List ℕ) → s.core.ending ≡ Running → s.out ≡ output → Runs (RunsOut output) s 0 limit
-runs_out s limit output running out =
-    (0, omega arith, omega arith, subst (λ (u : State). u.core.ending ≡ Running) (sym (run-zero s)) running,
-    subst (λ (u : State). u.out ≡ output) (sym (run-zero s)) out)
+runs_out s limit output running out = (
+  0,
+  omega arith,
+  omega arith,
+  subst (λ (u : State). u.core.ending ≡ Running) (sym (run-zero s)) running,
+  subst (λ (u : State). u.out ≡ output) (sym (run-zero s)) out,
+)
 
 -- an exit
 pub ends_by : (s t : State) (n turns limit : ℕ) (output text : List ℕ) → run n s ≡ t → n ≤ limit → IsExited t.core.ending → exit_text t.core ≡ text → t.out ≡ output → Runs (Ends output text) s turns limit
-ends_by s t n turns limit output text e within exits same out =
-    (n, within, subst (λ (u : State). IsExited u.core.ending) (sym e) exits,
-    subst (λ (u : State). exit_text u.core ≡ text) (sym e) same, subst (λ (u : State). u.out ≡ output) (sym e) out)
+ends_by s t n turns limit output text e within exits same out = (
+  n,
+  within,
+  subst (λ (u : State). IsExited u.core.ending) (sym e) exits,
+  subst (λ (u : State). exit_text u.core ≡ text) (sym e) same,
+  subst (λ (u : State). u.out ≡ output) (sym e) out,
+)
 
 -- What is asked of statements
 

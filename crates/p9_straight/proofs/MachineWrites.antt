@@ -1,15 +1,13 @@
 -- The code that writes the front of a text.
-use Rattle.std.proofs.Common.{◌≡◌, ◌≢◌, ℕ, zero, suc, ◌+◌, ◌-◌, ◌*◌, ◌/◌, ◌%◌, ◌^◌, ◌<◌, ◌≤◌, ◌⊎◌, inl, inr, Bool, true, false, not, ◌||◌, lit<, List, [], ◌∷◌, ◌++◌, length, take, drop, slice_index, slice_set, nat_lt, nat_le, Ok, Result, refl, sym, ap, ◌∙◌, arith}
-use Rattle.std.specs.Prelude.{◌==◌, if◌then◌else◌}
+use Rattle.std.proofs.Common.{◌≡◌, ℕ, ◌+◌, ◌-◌, ◌/◌, ◌%◌, ◌^◌, ◌<◌, ◌≤◌, inl, true, false, lit<, List, [], ◌∷◌, ◌++◌, length, take, drop, nat_le, refl, ap, ◌∙◌, arith}
+use Rattle.std.specs.Prelude.{if◌then◌else◌}
 use Rattle.std.proofs.lemmas.Bool.Decides.{nat_tests}
-use Rattle.p9_base.specs.Words.{is_negative, word_sum}
+use Rattle.p9_base.specs.Words.{is_negative}
 use Rattle.p9_r3k.specs.declared.inst.Inst.{Inst}
-use Rattle.p9_r3k.specs.declared.inst.Inst.TheVariants.{Addiu, Lui, Ori, Sw, Syscall}
-use Rattle.p9_r3k.specs.declared.halt.HaltCause.{HaltCause}
+use Rattle.p9_r3k.specs.declared.inst.Inst.TheVariants.{Addiu, Sw, Syscall}
 use Rattle.p9_r3k.specs.declared.halt.HaltCause.TheVariants.{BadAddress}
-use Rattle.p9_r3k.specs.declared.halt.Asked.{Asked}
 use Rattle.p9_r3k.specs.declared.halt.Asked.TheVariants as asks
-use Rattle.p9_r3k.specs.Memory.{Core, text_start, stack_start, readable, word_in, with_word_in, bytes_from}
+use Rattle.p9_r3k.specs.Memory.{Core, text_start, readable, word_in, with_word_in, bytes_from}
 use Rattle.p9_r3k.specs.Machine.{State, run, argument, then_one, asked_write, asked}
 use Rattle.p9_straight.specs.Code.{set_register, system_call}
 use Rattle.p9_straight.proofs.MachineSteps.{Fixed, standing, Room, data_readable, step_addiu, step_sw_stack, step_write, step_refused}
