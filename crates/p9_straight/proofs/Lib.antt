@@ -3,3 +3,14 @@ pub mod Placed
 pub mod Positions
 pub mod LaidOut
 pub mod TextsLaid
+pub mod MachineSteps
+pub mod MachineCode
+pub mod MachineBytes
+pub mod MachineMemory
+pub mod MachineCalls
+pub mod MachineWrites
+pub mod MachineTurns
+pub mod MachineStatements
+pub mod MachineText
+pub mod MachineStart
+pub mod MachineRun
