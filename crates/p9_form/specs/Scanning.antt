@@ -106,20 +106,31 @@ quoted_from false k (b ∷ s) =
 abbrev pub found : code.Token → ℕ → Option Found
 found token length = Some (record { token = token; length = length })
 
-abbrev pub found_number : Option ℕ → ℕ → Option Found
-found_number None length = None
-found_number (Some value) length = found (variant.Number value) length
+-- a word: a letter, and letters and digits behind it
+abbrev pub found_word : (first : ℕ) → List ℕ → Option Found
+found_word first s = found (variant.Word (first ∷ take (run_length s) s)) (run_length s + 1)
 
-abbrev pub found_text : Option Quoted → Option Found
-found_text None = None
-found_text (Some t) = found (variant.Text t.bytes) t.length
+abbrev pub found_value : Option ℕ → ℕ → Option Found
+found_value None length = None
+found_value (Some value) length = found (variant.Number value) length
 
--- the token that the bytes begin with
-unfoldable pub token_at : List ℕ → Option Found
-token_at [] = None
-token_at (b ∷ s) =
-    if is_letter b then found (variant.Word (b ∷ take (run_length s) s)) (run_length s + 1)
-    else (if is_digit b then found_number (number_of b (take (run_length s) s)) (run_length s + 1)
-    else (if b == 34 then found_text (quoted_from false 1 s)
-    else (if is_mark b then found (variant.Mark b) 1
+-- a number: a digit, and letters and digits behind it, which must be digits
+abbrev pub found_number : (digit : ℕ) → List ℕ → Option Found
+found_number digit s = found_value (number_of digit (take (run_length s) s)) (run_length s + 1)
+
+abbrev pub found_quoted : Option Quoted → Option Found
+found_quoted None = None
+found_quoted (Some t) = found (variant.Text t.bytes) t.length
+
+-- a text, behind its first quotation mark
+abbrev pub found_text : List ℕ → Option Found
+found_text s = found_quoted (quoted_from false 1 s)
+
+-- the token that begins with this byte
+unfoldable pub token_at : (first : ℕ) → List ℕ → Option Found
+token_at first s =
+    if is_letter first then found_word first s
+    else (if is_digit first then found_number first s
+    else (if first == 34 then found_text s
+    else (if is_mark first then found (variant.Mark first) 1
     else None)))

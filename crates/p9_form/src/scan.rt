@@ -1,8 +1,8 @@
 // From the bytes of a file to its tokens.
-ghost use Rattle.std.specs.Prelude.{◌≡◌, ◌≤◌, ◌<◌, ◌+◌, ◌^◌, false, List, [], ◌∷◌, ◌++◌, length, IsTrue, IfOk, OnOk, IfSome, IsSomeAnd};
+ghost use Rattle.std.specs.Prelude.{◌≡◌, ◌≤◌, ◌<◌, ◌+◌, ◌^◌, false, List, [], ◌∷◌, ◌++◌, length, IsTrue, IfOk, OnOk, IfSome, IsSomeAnd, Some};
 ghost use Rattle.p9_lang.specs.Form.{is_letter, is_letter_or_digit};
 ghost use Rattle.p9_form.specs.Spelling.{is_blank, Spells};
-ghost use Rattle.p9_form.specs.Scanning.{seen, is_mark, AreFormTokens, weights, after_blanks, run_length, is_digit, number_after, number_of, is_plain, quoted_from, token_at};
+ghost use Rattle.p9_form.specs.Scanning.{seen, is_mark, AreFormTokens, weights, after_blanks, run_length, is_digit, number_after, number_of, is_plain, quoted_from, found_word, found_number, found_text, token_at};
 ghost use Rattle.p9_lang.specs.Tokens as tree;
 
 use crate::token::{Token, Tokens};
@@ -170,4 +170,65 @@ fn read_text(alloc: Global, rest: &[u8]) -> Result<Option<Quoted>, NoMemory>
         left = after;
     }
     Ok(None)
+}
+
+fn word_token(alloc: Global, first: u8, after: &[u8]) -> Result<Found, NoMemory>
+    requires { 1 + length after.now < 2 ^ 64 }
+    ensures { IfOk result (λ answer. Some answer ≡ found_word first after.now) }
+{
+    let more = run_length(after);
+    Ok(Found {
+        token: Token::Word(word(alloc, first, &after[..more])?),
+        length: more + 1,
+    })
+}
+
+fn number_token(digit: u8, after: &[u8]) -> Option<Found>
+    requires digit { IsTrue (is_digit digit) }
+    requires small { 1 + length after.now < 2 ^ 64 }
+    ensures { result ≡ found_number digit after.now }
+{
+    let more = run_length(after);
+    match number(digit, &after[..more]) {
+        None => None,
+        Some(value) => Some(Found {
+            token: Token::Number(value),
+            length: more + 1,
+        }),
+    }
+}
+
+fn text_token(alloc: Global, after: &[u8]) -> Result<Option<Found>, NoMemory>
+    requires { 1 + length after.now < 2 ^ 64 }
+    ensures { IfOk result (λ answer. answer ≡ found_text after.now) }
+{
+    match read_text(alloc, after)? {
+        None => Ok(None),
+        Some(text) => Ok(Some(Found {
+            token: Token::Text(text.bytes),
+            length: text.length,
+        })),
+    }
+}
+
+// The token that the bytes begin with.
+#[tactic(auto, unfolding(crate::specs::Scanning::token_at))]
+fn read_token(alloc: Global, first: u8, after: &[u8]) -> Result<Option<Found>, NoMemory>
+    requires { 1 + length after.now < 2 ^ 64 }
+    ensures { IfOk result (λ answer. answer ≡ token_at first after.now) }
+{
+    if is_letter(first) {
+        Ok(Some(word_token(alloc, first, after)?))
+    } else if is_digit(first) {
+        Ok(number_token(first, after))
+    } else if first == b'"' {
+        text_token(alloc, after)
+    } else if is_mark(first) {
+        Ok(Some(Found {
+            token: Token::Mark(first),
+            length: 1,
+        }))
+    } else {
+        Ok(None)
+    }
 }
