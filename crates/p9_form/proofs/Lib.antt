@@ -1,1 +1,3 @@
+pub mod ScanCases
+pub mod ScanNumbers
 pub mod ScanTexts
