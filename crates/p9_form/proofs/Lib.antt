@@ -1,3 +1,4 @@
 pub mod ScanCases
 pub mod ScanNumbers
 pub mod ScanTexts
+pub mod ScanTokens
