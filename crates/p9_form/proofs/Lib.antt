@@ -2,3 +2,4 @@ pub mod ScanCases
 pub mod ScanNumbers
 pub mod ScanTexts
 pub mod ScanTokens
+pub mod ScanLoop
