@@ -3,3 +3,4 @@ pub mod ScanNumbers
 pub mod ScanTexts
 pub mod ScanTokens
 pub mod ScanLoop
+pub mod ScanCode

@@ -1,12 +1,12 @@
 -- A file that is read token by token.
-use Rattle.std.proofs.Common.{◌≡◌, ℕ, ◌+◌, ◌-◌, ◌<◌, ◌≤◌, true, false, List, [], ◌∷◌, ◌++◌, length, take, drop, get_or, Option, Some, None, IfSome, All, ◌⊎◌, refl, sym, ap, subst, ◌∙◌, inl, inr, append_assoc, length-append, length-drop, arith}
-use Rattle.std.proofs.Math.Seq.{take-length, drop-append_seam}
+use Rattle.std.proofs.Common.{◌≡◌, ℕ, ◌+◌, ◌≤◌, true, false, List, [], ◌∷◌, ◌++◌, length, drop, Some, None, ◌⊎◌, refl, sym, ap, subst, ◌∙◌, inl, inr, append_assoc, length-append, length-drop, arith}
+use Rattle.std.proofs.Math.Seq.{drop-append_seam}
 use Rattle.std.proofs.lemmas.Bool.{cond-true, cond-false}
 use Rattle.std.proofs.lemmas.List.Elements.{All-nil, All-cons, All-head, All-tail, All-append}
 use Rattle.p9_lang.specs.Tokens.{Token, Word, Number, Character, Text, Mark, End}
 use Rattle.p9_form.specs.declared.scan.Found.{Found}
 use Rattle.p9_form.specs.Spelling.{is_blank, AreBlanks, IsSpelling, EndsBefore, Spells}
-use Rattle.p9_form.specs.Scanning.{token_seen, IsFormToken, AreFormTokens, weight, weights, after_blanks, token_at}
+use Rattle.p9_form.specs.Scanning.{token_seen, IsFormToken, AreFormTokens, weights, after_blanks, token_at}
 use Rattle.p9_form.proofs.ScanCases.{if_cases, IfSome_at}
 use Rattle.p9_form.proofs.ScanTokens.{IsCut, token_sound, IsFound, token_complete}
 
@@ -62,7 +62,7 @@ after_blanks_twice [] = refl
 after_blanks_twice (b ∷ s) =
     if_cases (λ r. after_blanks r ≡ r) (is_blank b) (λ _. after_blanks_twice s) (after_blanks_none b s)
 
-after_blanks_shorter : (s : List ℕ) → length (after_blanks s) ≤ length s
+pub after_blanks_shorter : (s : List ℕ) → length (after_blanks s) ≤ length s
 after_blanks_shorter [] = omega arith
 after_blanks_shorter (b ∷ s) =
     if_cases (λ r. length r ≤ length (b ∷ s)) (is_blank b) (λ _. omega (arith, after_blanks_shorter s)) (λ _. omega arith)
@@ -182,18 +182,18 @@ spells_tight (t ∷ ts) s form h = of_form (form_cases t ts form)
 
 -- Some tokens are read, and bytes are left
 
-record IsBehind (done : List Token) (left : List ℕ) (ts : List Token) : Type 0 where
+pub record IsBehind (done : List Token) (left : List ℕ) (ts : List Token) : Type 0 where
   more : List Token
   cut : ts ≡ done ++ more
   form : AreFormTokens more
   spells : Spells more left
 
 pub record IsScanned (bytes : List ℕ) (done : List Token) (left : List ℕ) : Type 0 where
-  tight : after_blanks left ≡ left
-  front : (t : Token) (ts : List Token) → Spells (t ∷ ts) left → Spells (done ++ t ∷ ts) bytes
-  form : (ts : List Token) → AreFormTokens ts → AreFormTokens (done ++ ts)
-  behind : (ts : List Token) → AreFormTokens ts → Spells ts bytes → IsBehind done left ts
-  weighs : weights done + length left ≤ length bytes
+  pub tight : after_blanks left ≡ left
+  pub front : (t : Token) (ts : List Token) → Spells (t ∷ ts) left → Spells (done ++ t ∷ ts) bytes
+  pub form : (ts : List Token) → AreFormTokens ts → AreFormTokens (done ++ ts)
+  pub behind : (ts : List Token) → AreFormTokens ts → Spells ts bytes → IsBehind done left ts
+  pub weighs : weights done + length left ≤ length bytes
 
 pub scanned_start : (bytes : List ℕ) → IsScanned bytes [] (after_blanks bytes)
 scanned_start bytes = record {
@@ -222,15 +222,15 @@ step_behind first more left f done ts tight cut found behind = of_more behind.mo
   where
     of_cases : (t : Token) (us : List Token) → ts ≡ done ++ t ∷ us → ((t ≡ End) × (us ≡ []) × (after_blanks left ≡ [])) ⊎ IsFirst t us left → IsBehind (done ++ token_seen f.token ∷ []) (after_blanks (drop f.length left)) ts
     of_cases t us is (inl e) = let never : [] ≡ first ∷ more = sym e.2 ∙ tight ∙ cut in absurd (cc)
-    of_cases t us is (inr is_first) =
-        let same = found_first first more left f t us tight cut found is_first in
-        let token : t ≡ token_seen f.token = sym is_first.token ∙ ap (λ g. token_seen g.token) same in
-        let rest : drop is_first.found.length (after_blanks left) ≡ drop f.length left = ap (λ g. drop g.length (after_blanks left)) same ∙ ap (drop f.length) tight in
+    of_cases t us is (inr begun) =
+        let same = found_first first more left f t us tight cut found begun in
+        let token : t ≡ token_seen f.token = sym begun.token ∙ ap (λ g. token_seen g.token) same in
+        let rest : drop begun.found.length (after_blanks left) ≡ drop f.length left = ap (λ g. drop g.length (after_blanks left)) same ∙ ap (drop f.length) tight in
         record {
           more = us;
           cut = is ∙ ap (λ u. done ++ u ∷ us) token ∙ sym (append_assoc done (token_seen f.token ∷ []) us);
-          form = is_first.form;
-          spells = spells_tight us (drop f.length left) is_first.form (subst (Spells us) rest is_first.spells);
+          form = begun.form;
+          spells = spells_tight us (drop f.length left) begun.form (subst (Spells us) rest begun.spells);
         }
 
     of_more : (us : List Token) → ts ≡ done ++ us → AreFormTokens us → Spells us left → IsBehind (done ++ token_seen f.token ∷ []) (after_blanks (drop f.length left)) ts
@@ -246,9 +246,9 @@ scanned_step bytes done first more left f is cut found =
     record {
       tight = after_blanks_twice (drop f.length left);
       front = λ t ts h.
-        let behind : Spells (t ∷ ts) of.rest = subst (Spells (t ∷ ts)) rest (blanks_in_front t ts (drop f.length left) h) in
-        let here : Spells (token ∷ t ∷ ts) left = from_parts token (t ∷ ts) left (record { before = []; own = of.own; rest = of.rest; blanks = All-nil IsBlank; cut = whole; spelled = of.spelled; ends = of.ends; more = behind }) in
-        subst (λ us. Spells us bytes) (sym (append_assoc done (token ∷ []) (t ∷ ts))) (is.front token (t ∷ ts) here);
+          let behind : Spells (t ∷ ts) of.rest = subst (Spells (t ∷ ts)) rest (blanks_in_front t ts (drop f.length left) h) in
+          let here : Spells (token ∷ t ∷ ts) left = from_parts token (t ∷ ts) left (record { before = []; own = of.own; rest = of.rest; blanks = All-nil IsBlank; cut = whole; spelled = of.spelled; ends = of.ends; more = behind }) in
+          subst (λ us. Spells us bytes) (sym (append_assoc done (token ∷ []) (t ∷ ts))) (is.front token (t ∷ ts) here);
       form = λ ts h. subst AreFormTokens (sym (append_assoc done (token ∷ []) ts)) (is.form (token ∷ ts) (form_more token ts of.form h));
       behind = λ ts form h. step_behind first more left f done ts is.tight cut found (is.behind ts form h);
       weighs = omega (arith, is.weighs, weights-append done (token ∷ []), after_blanks_shorter (drop f.length left), length-drop f.length left, of.weighs, of.size, ap length whole, length-append of.own of.rest);
@@ -266,7 +266,7 @@ behind_end done ts behind = of_more behind.more behind.cut behind.form behind.sp
   where
     of_cases : (t : Token) (us : List Token) → ts ≡ done ++ t ∷ us → ((t ≡ End) × (us ≡ []) × (after_blanks [] ≡ [])) ⊎ IsFirst t us [] → done ++ End ∷ [] ≡ ts
     of_cases t us is (inl e) = sym (is ∙ ap (λ u. done ++ u ∷ us) e.0 ∙ ap (λ vs. done ++ End ∷ vs) e.1)
-    of_cases t us is (inr is_first) = let never : [] ≡ is_first.first ∷ is_first.more = is_first.cut in absurd (cc)
+    of_cases t us is (inr begun) = let never : [] ≡ begun.first ∷ begun.more = begun.cut in absurd (cc)
 
     of_more : (us : List Token) → ts ≡ done ++ us → AreFormTokens us → Spells us [] → done ++ End ∷ [] ≡ ts
     of_more [] is form h = absurd form

@@ -1,13 +1,13 @@
 -- A text that is read byte by byte.
-use Rattle.std.proofs.Common.{◌≡◌, ℕ, ◌+◌, Bool, true, false, not, ◌&&◌, ◌||◌, eqb, eqb-true, leb, cond, List, [], ◌∷◌, ◌++◌, length, flat_map, Option, Some, None, IfSome, refl, sym, ap, subst, ◌∙◌, inl, inr, append_assoc, length-append, arith}
+use Rattle.std.proofs.Common.{◌≡◌, ℕ, ◌+◌, true, false, not, eqb, eqb-true, cond, List, [], ◌∷◌, ◌++◌, length, flat_map, Option, Some, None, IfSome, refl, sym, ap, subst, ◌∙◌, inl, inr, append_assoc, length-append, arith}
 use Rattle.std.specs.List.{list_all}
-use Rattle.std.proofs.lemmas.Bool.{and_parts, and_from, or_left, or_right, not-true, not_from_false, cond-true, cond-false, cases_Bool, true≢false}
+use Rattle.std.proofs.lemmas.Bool.{and_parts, and_from, not-true, not_from_false, cond-true, cond-false, cases_Bool}
 use Rattle.std.proofs.lemmas.Bool.Decides.{nat_tests}
 use Rattle.p9_lang.specs.Form.{is_text_byte}
 use Rattle.p9_form.specs.declared.scan.Quoted.{Quoted}
 use Rattle.p9_form.specs.Spelling.{text_spelling}
 use Rattle.p9_form.specs.Scanning.{is_plain, with_byte, quoted_from}
-use Rattle.p9_form.proofs.ScanCases.{if_cases, IfSome_map}
+use Rattle.p9_form.proofs.ScanCases.{if_cases}
 
 -- bytes that are read already, in front of those that are still to come
 abbrev pub with_bytes : List ℕ → Option Quoted → Option Quoted
@@ -103,19 +103,19 @@ quoted_complete (b ∷ bs) k after h =
     let parts = and_parts (is_text_byte b) (list_all is_text_byte bs) h in
     let rest = spelled bs ++ 34 ∷ after in
     elim (cases_Bool (eqb b 10)) [
-      inl is_newline ↦
-        let newline = eqb-true b 10 is_newline in
-        let made : quoted_from false k (92 ∷ 110 ∷ rest) ≡ text_of k (10 ∷ bs) = ap (with_byte 10) (quoted_complete bs (k + 1 + 1) after parts.1) ∙ longer 10 k (k + 1 + 1) (92 ∷ 110 ∷ []) bs refl (omega arith) in
-        subst (λ x. quoted_from false k ((text_spelling x ++ spelled bs) ++ 34 ∷ after) ≡ text_of k (x ∷ bs)) (sym newline) made
-    | inr not_newline ↦
-        let tests = text_byte_tests b parts.0 not_newline in
-        let is = plain_spelling b not_newline in
-        let plain : is_plain b ≡ true = and_from (is_text_byte b) (not (eqb b 10)) parts.0 (not_from_false (eqb b 10) not_newline) in
-        let inner = with_byte b (quoted_from false (k + 1) rest) in
-        ap (λ f. quoted_from false k ((f ++ spelled bs) ++ 34 ∷ after)) is
-        ∙ cond-false (eqb b 34) (Some (record { bytes = []; length = k + 1 })) (cond (eqb b 92) (quoted_from true (k + 1) rest) (cond (is_plain b) inner None)) tests.0
-        ∙ cond-false (eqb b 92) (quoted_from true (k + 1) rest) (cond (is_plain b) inner None) tests.1
-        ∙ cond-true (is_plain b) inner None plain
-        ∙ ap (with_byte b) (quoted_complete bs (k + 1) after parts.1)
-        ∙ longer b k (k + 1) (b ∷ []) bs is (omega arith)
+      | inl is_newline ↦
+          let newline = eqb-true b 10 is_newline in
+          let made : quoted_from false k (92 ∷ 110 ∷ rest) ≡ text_of k (10 ∷ bs) = ap (with_byte 10) (quoted_complete bs (k + 1 + 1) after parts.1) ∙ longer 10 k (k + 1 + 1) (92 ∷ 110 ∷ []) bs refl (omega arith) in
+          subst (λ x. quoted_from false k ((text_spelling x ++ spelled bs) ++ 34 ∷ after) ≡ text_of k (x ∷ bs)) (sym newline) made
+      | inr not_newline ↦
+          let tests = text_byte_tests b parts.0 not_newline in
+          let is = plain_spelling b not_newline in
+          let plain : is_plain b ≡ true = and_from (is_text_byte b) (not (eqb b 10)) parts.0 (not_from_false (eqb b 10) not_newline) in
+          let inner = with_byte b (quoted_from false (k + 1) rest) in
+          ap (λ f. quoted_from false k ((f ++ spelled bs) ++ 34 ∷ after)) is
+          ∙ cond-false (eqb b 34) (Some (record { bytes = []; length = k + 1 })) (cond (eqb b 92) (quoted_from true (k + 1) rest) (cond (is_plain b) inner None)) tests.0
+          ∙ cond-false (eqb b 92) (quoted_from true (k + 1) rest) (cond (is_plain b) inner None) tests.1
+          ∙ cond-true (is_plain b) inner None plain
+          ∙ ap (with_byte b) (quoted_complete bs (k + 1) after parts.1)
+          ∙ longer b k (k + 1) (b ∷ []) bs is (omega arith)
     ]

@@ -1,5 +1,5 @@
 -- The token that bytes begin with: it is spelled by them, and each spelling is found.
-use Rattle.std.proofs.Common.{◌≡◌, ℕ, ◌+◌, ◌-◌, ◌≤◌, Bool, true, false, ◌&&◌, ◌||◌, cond, eqb, eqb-true, leb, List, [], ◌∷◌, ◌++◌, length, take, flat_map, Option, Some, None, IfSome, decimal, refl, sym, ap, subst, ◌∙◌, inl, inr, ⊎_elim, append_assoc, length-append, arith}
+use Rattle.std.proofs.Common.{◌≡◌, ℕ, ◌+◌, ◌≤◌, Bool, true, false, ◌||◌, eqb, eqb-true, List, [], ◌∷◌, ◌++◌, length, take, Option, Some, None, IfSome, decimal, refl, sym, ap, subst, ◌∙◌, ⊎_elim, append_assoc, length-append, arith}
 use Rattle.std.specs.List.{list_all}
 use Rattle.std.proofs.Math.Seq.{take-append_seam}
 use Rattle.std.proofs.lemmas.Bool.{and_parts, and_from, or_cases, or_right, cond-true, cond-false, false_from_ne_true, true≢false}
@@ -11,8 +11,8 @@ use Rattle.p9_form.specs.declared.scan.Found.{Found}
 use Rattle.p9_form.specs.declared.scan.Quoted.{Quoted}
 use Rattle.p9_form.specs.Spelling.{is_blank, is_word, text_spelling, IsSpelling, begins_with_letter_or_digit, EndsBefore}
 use Rattle.p9_form.specs.Scanning.{token_seen, is_mark, IsFormToken, weight, run_length, is_digit, number_of, quoted_from, found_value, found_word, found_number, found_quoted, found_text, token_at}
-use Rattle.p9_form.proofs.ScanCases.{if_cases, IfSome_map}
-use Rattle.p9_form.proofs.ScanNumbers.{IsNumeral, number_sound, IsRead, number_complete}
+use Rattle.p9_form.proofs.ScanCases.{if_cases}
+use Rattle.p9_form.proofs.ScanNumbers.{IsNumeral, number_sound, number_complete}
 use Rattle.p9_form.proofs.ScanTexts.{spelled, IsQuoted, quoted_sound, quoted_complete}
 
 -- Runs of letters and digits

@@ -9,6 +9,8 @@ use crate::token::{Token, Tokens};
 use p9_base::{Bytes, NoMemory};
 use std::alloc::Global;
 
+const MAX_NUMBER: u64 = 0x7fff_ffff;
+
 /// A token, and how many bytes spell it.
 #[derive(Drop)]
 pub(crate) struct Found {
@@ -99,7 +101,7 @@ fn number_after(first: u32, digits: &[u8]) -> Option<u32>
             return None;
         }
         let next = u64::from(value) * 10 + u64::from(*digit - b'0');
-        if next > 2147483647 {
+        if next > MAX_NUMBER {
             return None;
         }
         value = next as u32;
@@ -231,4 +233,33 @@ fn read_token(alloc: Global, first: u8, after: &[u8]) -> Result<Option<Found>, N
     } else {
         Ok(None)
     }
+}
+
+fn push_token(list: &mut Vec<Token>, token: Token) -> Result<(), NoMemory>
+    ensures { OnOk result (list.new.items ≡ list.old.items ++ token ∷ []) }
+{
+    list.push(token)?;
+    Ok(())
+}
+
+/// The tokens of a file of the form, and the end behind them; none where the bytes are no such
+/// tokens.
+pub(crate) fn scan(alloc: Global, bytes: &[u8]) -> Result<Option<Tokens>, NoMemory>
+    ensures spelled { IfOk result (λ answer. IfSome answer (λ tokens. Spells (seen tokens) bytes.now × AreFormTokens (seen tokens))) }
+    ensures weighs { IfOk result (λ answer. IfSome answer (λ tokens. weights (seen tokens) ≤ length bytes.now)) }
+
+    // Each spelling is found, and so there is no second one.
+    ensures exact { (ts : List tree.Token) → AreFormTokens ts → Spells ts bytes.now → IfOk result (λ answer. IsSomeAnd answer (λ tokens. seen tokens ≡ ts)) }
+{
+    let mut list = Vec::new(alloc);
+    let mut left = after_blanks(bytes);
+    while let [first, after @ ..] = left {
+        let Some(found) = read_token(alloc, *first, after)? else {
+            return Ok(None);
+        };
+        push_token(&mut list, found.token)?;
+        left = after_blanks(&left[found.length..]);
+    }
+    push_token(&mut list, Token::End)?;
+    Ok(Some(Tokens { list }))
 }

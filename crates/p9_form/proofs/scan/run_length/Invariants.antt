@@ -1,4 +1,4 @@
-use Rattle.std.proofs.Common.{◌≡◌, ◌+◌, ◌≤◌, length}
+use Rattle.std.proofs.Common.{◌≡◌, ◌+◌, length}
 use Rattle.p9_form.specs.Scanning.{run_length}
 use Rattle.p9_form.proofs.scan.run_length.Given as goal
 
