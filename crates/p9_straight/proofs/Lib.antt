@@ -1,2 +1,16 @@
 pub mod FormRun
 pub mod Placed
+pub mod Positions
+pub mod LaidOut
+pub mod TextsLaid
+pub mod MachineSteps
+pub mod MachineCode
+pub mod MachineBytes
+pub mod MachineMemory
+pub mod MachineCalls
+pub mod MachineWrites
+pub mod MachineTurns
+pub mod MachineStatements
+pub mod MachineText
+pub mod MachineStart
+pub mod MachineRun
