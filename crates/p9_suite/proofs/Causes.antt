@@ -1,5 +1,5 @@
 -- What the answers of `run` say of the files in the store.
-use Rattle.std.proofs.Common.{◌≡◌, ◌≢◌, ◌⊎◌, ◌↔◌, ℕ, List, [], ◌∷◌, ◌++◌, map, Option, Some, None, IfSome, IsSomeAnd, Result, Ok, Err, inl, inr, refl, sym, ap, ◌∙◌, subst}
+use Rattle.std.proofs.Common.{◌≡◌, ◌≢◌, ◌⊎◌, ◌↔◌, ℕ, List, [], ◌∷◌, ◌++◌, map, Option, Some, None, IfSome, IsSomeAnd, Bool, true, false, Result, Ok, Err, IsOk, inl, inr, refl, sym, ap, ◌∙◌, subst}
 use Rattle.p9_base.specs.Outside.{Held}
 use Rattle.p9_aout.specs.Image.{ImageParts, image_of}
 use Rattle.p9_aout.specs.declared.format.AoutFault.{AoutFault}
@@ -62,25 +62,25 @@ first_formless word before [] f = f
 first_formless word before (name ∷ names) (inl f) = inl f.1
 first_formless word before (name ∷ names) (inr f) = inr (f.0, f.1, f.2, f.3, first_formless word before names f.4)
 
-cause : (names : List (List ℕ)) (a : Answer) (before after : Held) (left later out put : Option (List ℕ)) → (status a ≡ 9 → ⊥) → (status a ≡ 10 → ⊥) → RunTells names a before after left later out put → HasCause names a before after left later out put
-cause names (Ended text) before after left later out put nine ten t = inr (inr (inr (tt, t)))
-cause names Usage before after left later out put nine ten t = absurd t
-cause names (Twice x i j) before after left later out put nine ten t = inr (inr (inl (refl, t.0.0, t.0.1, links.Twice x i j, (λ e. cc), t.0.2)))
-cause names NoMain before after left later out put nine ten t = inr (inr (inl (refl, t.0.0, t.0.1, links.NoMain, (λ e. cc), t.0.2)))
-cause names (MainType i) before after left later out put nine ten t = inr (inr (inl (refl, t.0.0, t.0.1, links.MainType i, (λ e. cc), t.0.2)))
-cause names (Unresolved x i) before after left later out put nine ten t = inr (inr (inl (refl, t.0.0, t.0.1, links.Unresolved x i, (λ e. cc), t.0.2)))
-cause names (Disagree x i j) before after left later out put nine ten t = inr (inr (inl (refl, t.0.0, t.0.1, links.Disagree x i j, (λ e. cc), t.0.2)))
-cause names (Absent word) before after left later out put nine ten t = inl (refl, first_absent word before names t.0)
-cause names ReadFault before after left later out put nine ten t = inr (inr (inr (tt, t)))
-cause names WriteFault before after left later out put nine ten t = inr (inr (inr (tt, t)))
-cause names (StoreFault word) before after left later out put nine ten t = absurd (nine refl)
-cause names Memory before after left later out put nine ten t = absurd (ten refl)
-cause names (Halted cause pc) before after left later out put nine ten t = inr (inr (inr (tt, t)))
-cause names (Spent n) before after left later out put nine ten t = inr (inr (inr (tt, t)))
-cause names (BadMagic word m) before after left later out put nine ten t = absurd t
-cause names (ShortFile word need) before after left later out put nine ten t = absurd t
-cause names (BadSegment word) before after left later out put nine ten t = absurd t
-cause names (NotBuilt word) before after left later out put nine ten t = inr (inl (refl, first_formless word before names t.0))
+cause_of : (names : List (List ℕ)) (a : Answer) (before after : Held) (left later out put : Option (List ℕ)) → (status a ≡ 9 → ⊥) → (status a ≡ 10 → ⊥) → RunTells names a before after left later out put → HasCause names a before after left later out put
+cause_of names (Ended text) before after left later out put nine ten t = inr (inr (inr (tt, t)))
+cause_of names Usage before after left later out put nine ten t = absurd t
+cause_of names (Twice x i j) before after left later out put nine ten t = inr (inr (inl (refl, (t.0.0, t.0.1, (links.Twice x i j, (λ e. cc), t.0.2)))))
+cause_of names NoMain before after left later out put nine ten t = inr (inr (inl (refl, (t.0.0, t.0.1, (links.NoMain, (λ e. cc), t.0.2)))))
+cause_of names (MainType i) before after left later out put nine ten t = inr (inr (inl (refl, (t.0.0, t.0.1, (links.MainType i, (λ e. cc), t.0.2)))))
+cause_of names (Unresolved x i) before after left later out put nine ten t = inr (inr (inl (refl, (t.0.0, t.0.1, (links.Unresolved x i, (λ e. cc), t.0.2)))))
+cause_of names (Disagree x i j) before after left later out put nine ten t = inr (inr (inl (refl, (t.0.0, t.0.1, (links.Disagree x i j, (λ e. cc), t.0.2)))))
+cause_of names (Absent word) before after left later out put nine ten t = inl (refl, first_absent word before names t.0)
+cause_of names ReadFault before after left later out put nine ten t = inr (inr (inr (tt, t)))
+cause_of names WriteFault before after left later out put nine ten t = inr (inr (inr (tt, t)))
+cause_of names (StoreFault word) before after left later out put nine ten t = absurd (nine refl)
+cause_of names Memory before after left later out put nine ten t = absurd (ten refl)
+cause_of names (Halted cause pc) before after left later out put nine ten t = inr (inr (inr (tt, t)))
+cause_of names (Spent n) before after left later out put nine ten t = inr (inr (inr (tt, t)))
+cause_of names (BadMagic word m) before after left later out put nine ten t = absurd t
+cause_of names (ShortFile word need) before after left later out put nine ten t = absurd t
+cause_of names (BadSegment word) before after left later out put nine ten t = absurd t
+cause_of names (NotBuilt word) before after left later out put nine ten t = inr (inl (refl, first_formless word before names t.0))
 
 -- a simulation's status is no refusal's
 simulated_not : (a : Answer) → IsSimulated a → (status a ≡ 5 → ⊥) × (status a ≡ 6 → ⊥) × (status a ≡ 16 → ⊥)
@@ -162,10 +162,13 @@ same_modules held (name ∷ names) (file ∷ files) (other ∷ others) a b =
 -- files that join have no fault
 joined_fault : (files : List File) → Joins (linked (map module_of files)) → AreRefused files → ⊥
 joined_fault files j r = elim (joined_exactly (linked (map module_of files)) (Err r.0) r.2 j) [
-  | inl ok ↦ absurd ok
+  | inl ok ↦ absurd (not_ok r.0 ok)
   | inr e ↦ r.1 (is_memory r.0 e)
 ]
   where
+    not_ok : (why : LinkFault) → IsOk {T = Table} {E = LinkFault} (Err why) → ⊥
+    not_ok why ok = let e : false ≡ true = ok in cc
+
     is_memory : (why : LinkFault) → ◌≡◌ {A = Result Table LinkFault} (Err why) (Err links.Memory) → why ≡ links.Memory
     is_memory why e = cc
 
@@ -227,7 +230,7 @@ files_say names a before after left later out put c = record {
 
 -- what the command tells says which statuses it has
 pub files_told : (names : List (List ℕ)) (a : Answer) (before after : Held) (left later out put : Option (List ℕ)) → (status a ≡ 9 → ⊥) → (status a ≡ 10 → ⊥) → RunTells names a before after left later out put → FilesSay names before (status a)
-files_told names a before after left later out put nine ten t = files_say names a before after left later out put (cause names a before after left later out put nine ten t)
+files_told names a before after left later out put nine ten t = files_say names a before after left later out put (cause_of names a before after left later out put nine ten t)
 
 -- The run
 
@@ -329,7 +332,7 @@ run_is names files a before after left later out put s Line there i h e line = r
 
 -- files that join are run, whatever the answer
 pub joined_run : (names : List (List ℕ)) (files : List File) (a : Answer) (before after : Held) (left later out put : Option (List ℕ)) (s : ℕ) (Line : List ℕ → Type 0) → AreFiles before names files → Joins (linked (map module_of files)) → (status a ≡ 9 → ⊥) → (status a ≡ 10 → ⊥) → RunTells names a before after left later out put → s ≡ status a → Line (message a) → (bytes : List ℕ) × (after output_name ≡ Some bytes) × IsRun files bytes left later out put s Line
-joined_run names files a before after left later out put s Line there joins nine ten t e line = by_cause (cause names a before after left later out put nine ten t)
+joined_run names files a before after left later out put s Line there joins nine ten t e line = by_cause (cause_of names a before after left later out put nine ten t)
   where
     by_cause : HasCause names a before after left later out put → (bytes : List ℕ) × (after output_name ≡ Some bytes) × IsRun files bytes left later out put s Line
     by_cause (inl c) = absurd (absent_files before names files c.1 there)

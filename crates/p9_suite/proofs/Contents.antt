@@ -255,7 +255,7 @@ module _ {I O F : Type 0} (takes : I → TakeCall → I → Type 0) (puts : O �
 
   -- What the whole command says. The source and the sink tell what they told where nothing was simulated.
 
-  record RunHolds (old new : Objects I O F) (names : List (List ℕ)) (left later out put : Option (List ℕ)) (a : Answer) : Type 0 where
+  pub record RunHolds (old new : Objects I O F) (names : List (List ℕ)) (left later out put : Option (List ℕ)) (a : Answer) : Type 0 where
     pub no_usage : status a ≡ 2 → ⊥
     pub unwritten : IsRefused (status a) → held new.files ≡ held old.files
     pub others : OthersKept (held old.files) (held new.files)

@@ -4,6 +4,7 @@ pub mod RunLemmas
 pub mod Ordered
 pub mod Contents
 pub mod Exited
+pub mod Shapes
 pub mod Once
 pub mod Causes
 pub mod SuiteLemmas

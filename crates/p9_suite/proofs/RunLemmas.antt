@@ -1,6 +1,7 @@
 -- How the answers of `run` come.
-use Rattle.std.proofs.Common.{◌≡◌, ℕ, ◌+◌, ◌≤◌, zero, suc, List, [], ◌∷◌, ◌++◌, All, length, map, Option, Some, None, Result, Ok, Err, ◌⊎◌, inl, inr, refl, sym, ◌∙◌, ap, subst, append_assoc, append-nil, arith}
+use Rattle.std.proofs.Common.{◌≡◌, ℕ, ◌+◌, ◌-◌, ◌≤◌, ◌<◌, zero, suc, List, [], ◌∷◌, ◌++◌, All, length, take, drop, get_or, map, Option, Some, None, Result, Ok, Err, ◌⊎◌, inl, inr, refl, sym, ◌∙◌, ap, subst, append_assoc, append-nil, arith}
 use Rattle.std.proofs.lemmas.List.Elements.{All-cons, All-nil, All-append}
+use Rattle.std.proofs.Math.Seq.{take-length}
 use Rattle.p9_base.specs.Outside.{TakeCall, PutCall, FileCall, ReadCall, WriteCall}
 use Rattle.p9_base.specs.declared.outside.Got.TheVariants as got
 use Rattle.p9_base.specs.declared.outside.FileFault.TheVariants as fault
@@ -22,7 +23,8 @@ use Rattle.p9_suite.specs.declared.answer.Answer.TheVariants.{Ended, Usage, Twic
 use Rattle.p9_suite.specs.Commands.{default_budget}
 use Rattle.p9_suite.specs.Suite.{doing, objects}
 use Rattle.p9_suite.specs.RunCommand.{ReadAll, StopsAt, StopsIn, IsProgram, HaveFault, IsUnbuilt, fault_answer, output_name, wrote, WriteCalls, BuildCalls, RunDoes, BuildDoes, WriteDoes, StoreDid, StoreReads, StoreReadsOne, StoreStopsAt, StoreStops}
-use Rattle.p9_suite.specs.ViCommand.{read_file, IsExecutable, FileCalls, FileDoes}
+use Rattle.p9_suite.specs.ViCommand.{read_file, IsExecutable, FileCalls, FileDoes, ViTells}
+use Rattle.p9_vi.specs.Stops.{Told}
 
 -- One file
 
@@ -82,6 +84,18 @@ stop_read does old now new names before rest name files answer h b s =
 pub unkept : {F : Type 0} (does : F → FileCall → F → Type 0) (old now new : F) (names before rest : List (List ℕ)) (name : List ℕ) (files : List File) (file : File) → HasRead does old now names before files → before ≡ name ∷ rest → StoreReadsOne does now new name file → StoreStops does old new names Memory
 unkept does old now new names before rest name files file h b one =
     stop_read does old now new names before rest name files Memory h b (stopped_found does now new name one.0 one.1)
+
+-- a slice with an element is that and the others
+pub split_first : (rest : List (List ℕ)) (name : List ℕ) → 1 ≤ length rest → name ≡ get_or rest 0 name → rest ≡ name ∷ take (length rest - 1) (drop 1 rest)
+split_first [] name h e = absurd (omega arith)
+split_first (x ∷ xs) name h e =
+    let count : length (x ∷ xs) - 1 ≡ length xs = omega arith in
+    let behind : take (length (x ∷ xs) - 1) xs ≡ xs = ap (λ n. take n xs) count ∙ take-length xs in
+    λ i. sym e i ∷ sym behind i
+
+pub none_left : (rest : List (List ℕ)) → length rest < 1 → rest ≡ []
+none_left [] h = refl
+none_left (x ∷ xs) h = absurd (omega arith)
 
 -- What the reads say of the files
 
@@ -160,6 +174,12 @@ wrote_simulated takes puts stores i o f j p g name bytes answer n x d r =
       (objects i o g, (first, refl, refl), Did-streams (doing takes puts stores) r.0 i o j p g r.1),
       written_calls bytes x.0 answer r.0 x.1 (subst (λ (w : List ℕ). FileCalls w bytes default_budget answer r.0) n r.2),
     )
+
+-- what is told of a file with the executable's name
+pub renamed_tells : (name bytes : List ℕ) (budget : ℕ) (answer : Answer) (left later out now : Option (List ℕ)) → name ≡ output_name → Told (λ l o l' o'. ViTells name budget answer (Some bytes) l o l' o') left later out now → Told (λ l o l' o'. ViTells output_name budget answer (Some bytes) l o l' o') left later out now
+renamed_tells name bytes budget answer left later out now n told l o hl ho =
+    let t = told l o hl ho in
+    (t.0, t.1, t.2, t.3, subst (λ (x : List ℕ). ViTells x budget answer (Some bytes) l o t.0 t.1) n t.4)
 
 -- Of the whole command
 
