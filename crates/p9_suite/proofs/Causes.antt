@@ -1,5 +1,5 @@
 -- What the answers of `run` say of the files in the store.
-use Rattle.std.proofs.Common.{◌≡◌, ◌≢◌, ◌⊎◌, ◌↔◌, ℕ, List, [], ◌∷◌, ◌++◌, map, Option, Some, None, IfSome, IsSomeAnd, Bool, true, false, Result, Ok, Err, IsOk, inl, inr, refl, sym, ap, ◌∙◌, subst}
+use Rattle.std.proofs.Common.{◌≡◌, ◌≢◌, ◌⊎◌, ◌↔◌, ℕ, ◌+◌, List, [], ◌∷◌, ◌++◌, map, Option, Some, None, IfSome, IsSomeAnd, Bool, true, false, Result, Ok, Err, IsOk, inl, inr, refl, sym, ap, ◌∙◌, subst, arith}
 use Rattle.p9_base.specs.Outside.{Held}
 use Rattle.p9_aout.specs.Image.{ImageParts, image_of}
 use Rattle.p9_aout.specs.declared.format.AoutFault.{AoutFault}
@@ -21,7 +21,7 @@ use Rattle.p9_r3k.specs.Machine.{State, exit_text}
 use Rattle.p9_r3k.specs.declared.halt.Ending.{Ending}
 use Rattle.p9_r3k.specs.declared.halt.Ending.TheVariants as endings
 use Rattle.p9_share.specs.Symbols.{module_of}
-use Rattle.p9_straight.specs.Headline.{KeepsMeaning, AreDefined}
+use Rattle.p9_straight.specs.Headline.{KeepsMeaning, AreDefined, IsDefined}
 use Rattle.p9_vi.specs.Run.{vrun, IsExited, HasExited, IsRunning}
 use Rattle.p9_suite.specs.declared.answer.Answer.{Answer}
 use Rattle.p9_suite.specs.declared.answer.Answer.TheVariants.{Ended, Usage, Twice, NoMain, MainType, Unresolved, Disagree, Absent, ReadFault, WriteFault, StoreFault, Memory, Halted, Spent, BadMagic, ShortFile, BadSegment, NotBuilt}
@@ -31,7 +31,7 @@ use Rattle.p9_suite.specs.RunCommand.{IsProgram, HaveFault, output_name}
 use Rattle.p9_suite.specs.RunContent.{AreFiles, IsFirst, IsAbsent, IsFormless, HasRun, HasFault, RunTells, AreRefused, FilesSay, KeepsModules, AreModules, IsRun}
 use Rattle.p9_suite.specs.ViCommand.{IsRunOf, Outcome, ViTells, answer_at, refusal}
 use Rattle.p9_suite.proofs.Contents.{ended_not}
-use Rattle.p9_suite.proofs.Exited.{exits_once}
+use Rattle.p9_suite.proofs.Exited.{exits_once, exited_stays}
 use Rattle.p9_suite.proofs.Once.{same_items, same_module}
 
 -- Which of four causes an answer has
@@ -283,6 +283,22 @@ has_ended bytes l o l' o' output text a r x =
       puts = r.puts ∙ ap (λ (x : List ℕ). o ++ x) all.2;
     }
 
+-- sources that do nothing undefined, and whose machine has exited by then, have ended with its output and text
+ended_by : (sources : List Source) (bytes l output text : List ℕ) (r : outcome.Outcome) → KeepsMeaning sources bytes → HasExited bytes l default_budget output text → source_run sources l (default_budget + 1) ≡ r → IsDefined r → r ≡ outcome.Ended output text
+ended_by sources bytes l output text (outcome.Ended o t) k x e d =
+    let m = k.ended l (default_budget + 1) o t e in
+    let same = exits_once bytes l m.0 default_budget o t output text m.1 x in
+    λ i. outcome.Ended (same.0 i) (same.1 i)
+ended_by sources bytes l output text (outcome.Out o) k x e d =
+    let m = k.goes_on l (default_budget + 1) o e in
+    absurd (exited_stays bytes l default_budget m.0 output text o (omega (arith, m.1)) x m.2)
+ended_by sources bytes l output text (outcome.Undefined o why place) k x e d = absurd d
+ended_by sources bytes l output text (outcome.Deep o place) k x e d = absurd d
+
+source_ends : (sources : List Source) (bytes l output text : List ℕ) → KeepsMeaning sources bytes → AreDefined sources l → HasExited bytes l default_budget output text → source_run sources l (default_budget + 1) ≡ outcome.Ended output text
+source_ends sources bytes l output text k d x =
+    ended_by sources bytes l output text (source_run sources l (default_budget + 1)) k x refl (d (default_budget + 1))
+
 -- modules are those of the files
 
 modules_sources : (modules : List Module) (files : List File) → AreModules modules files → sources_of modules ≡ map source_of files
@@ -301,6 +317,10 @@ keeps_modules modules files bytes a k = record {
   goes_on = λ input turns output c. k.goes_on input turns output (ap (λ (x : List Source). source_run x input turns) (sym (modules_sources modules files a)) ∙ c);
 }
 
+modules_run : (modules : List Module) (files : List File) (input : List ℕ) (turns : ℕ) → AreModules modules files → crun modules input turns ≡ source_run (map source_of files) input turns
+unfolding crun
+modules_run modules files input turns a = ap (λ (x : List Source). source_run x input turns) (modules_sources modules files a)
+
 -- The headline, of files that were run
 
 pub run_is : (names : List (List ℕ)) (files : List File) (a : Answer) (before after : Held) (left later out put : Option (List ℕ)) (s : ℕ) (Line : List ℕ → Type 0) → AreFiles before names files → IsSimulated a → (h : HasRun names a before after left later out put) → s ≡ status a → Line (message a) → IsRun files h.bytes left later out put s Line
@@ -314,13 +334,16 @@ run_is names files a before after left later out put s Line there i h e line = r
       let t = h.tells l o hl ho in
       let r : IsRunOf h.bytes default_budget l o t.0 t.1 a = tells_run h.bytes l o t.0 t.1 a i (λ x. seven (e ∙ x)) (λ x. eight (e ∙ x)) t.4 in
       let exit = h.program.ends l (subst (λ (x : List Source). AreDefined x l) same defined) in
-      let end : HasEnded a o t.1 exit.0 exit.1 = has_ended h.bytes l o t.0 t.1 exit.0 exit.1 a r exit.2 in (
+      let end : HasEnded a o t.1 exit.0 exit.1 = has_ended h.bytes l o t.0 t.1 exit.0 exit.1 a r exit.2 in
+      let ends = source_ends (map source_of files) h.bytes l exit.0 exit.1 keeps defined exit.2 in (
         exit.0,
         exit.1,
+        default_budget + 1,
+        ends,
+        (λ modules m. modules_run modules files l (default_budget + 1) m ∙ ends),
         t.3 ∙ ap Some end.puts,
         e ∙ ap status end.answers,
         subst (λ (x : Answer). Line (message x)) end.answers line,
-        (λ turns o' t' c. let k = keeps.ended l turns o' t' c in exits_once h.bytes l k.0 default_budget o' t' exit.0 exit.1 k.1 exit.2),
       );
 }
   where

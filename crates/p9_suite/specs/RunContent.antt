@@ -142,11 +142,14 @@ pub record IsRun (files : List File) (bytes : List ℕ) (left later out put : Op
       (l o : List ℕ) → left ≡ Some l → out ≡ Some o → s ≢ 7 → s ≢ 8 →
       (answer : Answer) × (l' o' : List ℕ) × (later ≡ Some l') × (put ≡ Some o')
       × (s ≡ status answer) × Line (message answer) × IsRunOf bytes default_budget l o l' o' answer
-  -- where the files do nothing undefined on that input, the output and the text are those that they come to
+  -- where the files do nothing undefined on that input, they have ended after some turns, as their modules have, and
+  -- the output that was appended and the text are those that they ended with
   pub comes :
       (l o : List ℕ) → left ≡ Some l → out ≡ Some o → s ≢ 7 → s ≢ 8 → AreDefined (map source_of files) l →
-      (output text : List ℕ) × (put ≡ Some (o ++ output)) × (s ≡ status (Ended text)) × Line (message (Ended text))
-      × ((turns : ℕ) (o' t' : List ℕ) → source_run (map source_of files) l turns ≡ outcome.Ended o' t' → (o' ≡ output) × (t' ≡ text))
+      (output text : List ℕ) × (turns : ℕ)
+      × (source_run (map source_of files) l turns ≡ outcome.Ended output text)
+      × ((modules : List Module) → AreModules modules files → crun modules l turns ≡ outcome.Ended output text)
+      × (put ≡ Some (o ++ output)) × (s ≡ status (Ended text)) × Line (message (Ended text))
 
 -- All files of the form that join are compiled and run: where the store tells what it holds, no call on it failed and
 -- memory sufficed, it holds an executable afterwards that keeps their meaning, and the answer is that of its run.
