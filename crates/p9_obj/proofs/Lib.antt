@@ -1,0 +1,5 @@
+pub mod Fresh
+pub mod Lasts
+pub mod Names
+pub mod Pieces
+pub mod Whole

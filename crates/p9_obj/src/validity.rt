@@ -1,0 +1,60 @@
+// Whether a module is valid.
+ghost use Rattle.std.specs.Prelude.{◌↔◌, IsTrue, IfOk, All, length};
+ghost use Rattle.p9_abs.specs.Validity.{IsValid};
+ghost use Rattle.p9_obj.specs.Rules.{IsSymbol};
+
+use crate::data::{has_size_in_range, has_well_pieced};
+use crate::distinct::are_distinct;
+use crate::functions::has_function;
+use crate::numbers::names_within;
+use crate::spelling::{is_bound_well, is_name, is_signature};
+use p9_abs::{AModule, Symbol};
+use p9_base::NoMemory;
+use std::alloc::Global;
+
+// Whether one of so many symbols keeps the rules on a symbol by itself.
+fn is_symbol(count: usize, symbol: &Symbol) -> bool
+    ensures { IsTrue result ↔ IsSymbol count symbol.now }
+{
+    is_name(&symbol.name.list)
+        && is_bound_well(symbol)
+        && is_signature(&symbol.sig.list)
+        && names_within(count, &symbol.body)
+        && has_size_in_range(&symbol.body)
+        && has_well_pieced(&symbol.body)
+        && has_function(&symbol.body)
+}
+
+fn are_symbols(symbols: &[Symbol]) -> bool
+    ensures { IsTrue result ↔ All (IsSymbol (length symbols.now)) symbols.now }
+{
+    let count = symbols.len();
+    symbols.iter().all(|s| is_symbol(count, s))
+}
+
+/// Whether the module is valid. It takes memory for the names, to tell whether they are distinct.
+
+pub fn valid(alloc: Global, m: &AModule) -> Result<bool, NoMemory>
+    ensures { IfOk result (λ valid. IsTrue valid ↔ IsValid m.now) }
+{
+    let symbols = m.symbols.list.as_slice();
+    if are_symbols(symbols) {
+        are_distinct(alloc, symbols)
+    } else {
+        Ok(false)
+    }
+}
+
+/// Whether each of the modules is valid.
+pub fn all_valid(alloc: Global, modules: &[AModule]) -> Result<bool, NoMemory>
+    ensures { IfOk result (λ valid. IsTrue valid ↔ All IsValid modules.now) }
+{
+    let mut rest = modules;
+    while let [first, after @ ..] = rest {
+        if !valid(alloc, first)? {
+            return Ok(false);
+        }
+        rest = after;
+    }
+    Ok(true)
+}
