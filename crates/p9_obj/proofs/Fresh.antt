@@ -1,10 +1,11 @@
 -- Symbols that are apart from one another, and from those whose names were seen.
-use Rattle.std.proofs.Common.{zero, suc, ◌≡◌, ◌≢◌, ◌⊎◌, inl, inr, ℕ, ◌<◌, ◌↔◌, ◌||◌, Bool, true, false, List, [], ◌∷◌, length, All, AllPairs, slice_index_or, bytes_eq, refl, sym, ap, ◌∙◌, true≢false, arith}
+use Rattle.std.proofs.Common.{zero, suc, ◌≡◌, ℕ, ◌-◌, ◌<◌, ◌≤◌, get_or, take, drop, not, subst, ◌↔◌, ◌||◌, Bool, true, false, List, [], ◌∷◌, length, All, AllPairs, slice_index_or, bytes_eq, refl, sym, ap, ◌∙◌, true≢false, arith}
 use Rattle.std.specs.Cmp.Lexicographic.{bytes_decides}
 use Rattle.std.proofs.lemmas.List.Elements.{All-nil, All-cons, All-head, All-tail}
 use Rattle.std.proofs.lemmas.List.Kept.{AllPairs-cons}
 use Rattle.p9_abs.specs.declared.modules.Symbol.{Symbol}
 use Rattle.p9_abs.specs.Validity.{AreApart}
+use Rattle.p9_obj.proofs.Whole.{rest_is}
 use Rattle.p9_obj.specs.Seen.{holds, is_alike, Notes}
 
 -- no symbol's name was seen, and no two are alike
@@ -88,3 +89,22 @@ fresh_first symbols h = record { unseen = λ k d lt. by (slice_index_or symbols 
 
 pub fresh_last : (locals globals : List (List ℕ)) → IsFresh locals globals []
 fresh_last locals globals = record { unseen = All-nil (λ t. holds locals globals t ≡ false); apart = λ i j d lt within. absurd (omega arith) }
+
+new-name : (b held : Bool) → b ≡ not held → b ≡ true → held ≡ false
+new-name b false e t = refl
+new-name b true e t = absurd (true≢false (sym t ∙ e))
+
+-- one more symbol was seen, and it's new
+pub fresh_turn : (locals globals : List (List ℕ)) (symbols rest next : List Symbol) (s : Symbol) (new_locals new_globals : List (List ℕ)) (b : Bool) → 1 ≤ length rest → s ≡ get_or rest 0 s → next ≡ take (length rest - 1) (drop 1 rest) → b ≡ not (holds locals globals s) → b ≡ true → Notes locals globals s new_locals new_globals → (IsFresh locals globals rest ↔ AllPairs AreApart symbols) → IsFresh new_locals new_globals next ↔ AllPairs AreApart symbols
+fresh_turn locals globals symbols [] next s new_locals new_globals b n here e new t notes h = absurd (omega arith)
+fresh_turn locals globals symbols (y ∷ after) next s new_locals new_globals b n here e new t notes h =
+    let same : next ≡ after = e ∙ rest_is y after in
+    let P : List Symbol → Type 0 = λ v. IsFresh new_locals new_globals v ↔ AllPairs AreApart symbols in
+    let Q : Symbol → Type 0 = λ v. Notes locals globals v new_locals new_globals in
+    let R : Symbol → Type 0 = λ v. holds locals globals v ≡ false in
+    let unseen : holds locals globals y ≡ false = subst R here (new-name b (holds locals globals s) new t) in
+    let noted : Notes locals globals y new_locals new_globals = subst Q here notes in
+    subst P (sym same) (
+      λ f. h.0 (fresh_back locals globals y after new_locals new_globals unseen noted f),
+      λ a. fresh_on locals globals y after new_locals new_globals noted (h.1 a)
+    )

@@ -1,5 +1,5 @@
+pub mod Whole
 pub mod Fresh
 pub mod Lasts
 pub mod Names
 pub mod Pieces
-pub mod Whole

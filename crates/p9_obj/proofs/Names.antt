@@ -8,6 +8,7 @@ use Rattle.p9_abs.specs.declared.modules.Body.{Body}
 use Rattle.p9_abs.specs.declared.modules.Body.TheVariants.{Text}
 use Rattle.p9_abs.specs.Modules.{named_by_operand, named_by_piece}
 use Rattle.p9_abs.specs.Validity.{IsWithin, NamesWithin}
+use Rattle.p9_obj.specs.Rules.{NamesSymbols}
 
 -- a fact of all elements of two lists is one of all of each
 split-left : {X : Type 0} (P : X → Type 0) (xs ys : List X) → All P (xs ++ ys) → All P xs
@@ -26,14 +27,13 @@ flat-all : {X Y : Type 0} (P : Y → Type 0) (f : X → List Y) (xs : List X) �
 flat-all P f [] h = All-nil (λ x. All P (f x))
 flat-all P f (x ∷ xs) h = All-cons (λ x. All P (f x)) x xs (split-left P (f x) (flat_map f xs) h) (flat-all P f xs (split-right P (f x) (flat_map f xs) h))
 
--- a test of all instructions' operands is one of what the function names
-pub text_within : (count : ℕ) (body : Body) (def : TextDef) (code : List Abs) (b : Bool) → body ≡ Text def → code ≡ def.code → (IsTrue b ↔ All (λ a. All (λ o. IsWithin count (named_by_operand o)) a.operands) code) → IsTrue b ↔ NamesWithin count body
-text_within count body def code b is same h =
+-- a test of all instructions is one of what the function names
+pub text_within : (count : ℕ) (body : Body) (def : TextDef) (b : Bool) → body ≡ Text def → (IsTrue b ↔ All (NamesSymbols count) def.code) → IsTrue b ↔ NamesWithin count body
+unfolding NamesSymbols
+text_within count body def b is g =
     let P : Operand → Type 0 = λ o. IsWithin count (named_by_operand o) in
     let f : Abs → List Operand = λ a. a.operands in
     let Q : Body → Type 0 = λ v. IsTrue b ↔ NamesWithin count v in
-    let R : List Abs → Type 0 = λ v. IsTrue b ↔ All (λ a. All P (f a)) v in
-    let g : IsTrue b ↔ All (λ a. All P (f a)) def.code = subst R same h in
     subst Q (sym is) (
       λ t. (all-flat P f def.code (g.0 t), All-nil (λ p. IsWithin count (named_by_piece p))),
       λ n. g.1 (flat-all P f def.code n.0)

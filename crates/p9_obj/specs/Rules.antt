@@ -1,11 +1,13 @@
 -- Parts of the rules of validity that have no name of their own, and all rules on one symbol.
-use Rattle.std.specs.Prelude.{◌≡◌, ◌≢◌, ℕ, ◌-◌, ◌^◌, ◌<◌, ◌≤◌, Bool, true, false, List, [], ◌∷◌}
+use Rattle.std.specs.Prelude.{◌≡◌, ◌≢◌, ℕ, ◌-◌, ◌^◌, ◌<◌, ◌≤◌, Bool, true, false, List, [], ◌∷◌, All}
+use Rattle.p9_abs.specs.declared.instructions.Abs.{Abs}
 use Rattle.p9_abs.specs.declared.instructions.Operand.{Operand}
 use Rattle.p9_abs.specs.declared.instructions.Operand.TheVariants.{Reg}
 use Rattle.p9_abs.specs.declared.modules.DataPiece.{DataPiece}
 use Rattle.p9_abs.specs.declared.modules.DataPiece.TheVariants.{Raw, Address}
 use Rattle.p9_abs.specs.declared.modules.Symbol.{Symbol}
-use Rattle.p9_abs.specs.Validity.{IsName, IsSignature, IsBoundWell, NamesWithin, HasWellPieced, HasSizeInRange, HasFunction}
+use Rattle.p9_abs.specs.Modules.{named_by_operand}
+use Rattle.p9_abs.specs.Validity.{IsWithin, IsName, IsSignature, IsBoundWell, NamesWithin, HasWellPieced, HasSizeInRange, HasFunction}
 
 -- a byte that shows and is no blank, no quote and no backslash
 abbrev pub IsSignatureByte : ℕ → Type 0
@@ -19,6 +21,10 @@ IsStackOffset frame offset = (2 ^ 32 - frame ≤ offset) × (offset < 2 ^ 32)
 abbrev pub IsWrittenRegister : Operand → Type 0
 IsWrittenRegister (Reg r) = (r ≢ 29) × (r ≢ 30) × (r ≢ 31)
 IsWrittenRegister _ = Unit {0}
+
+-- what an instruction names is among so many symbols
+unfoldable pub NamesSymbols : ℕ → Abs → Type 0
+NamesSymbols count a = All (λ o. IsWithin count (named_by_operand o)) a.operands
 
 -- a size of data or common
 abbrev pub IsSize : ℕ → Type 0

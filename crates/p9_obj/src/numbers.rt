@@ -2,8 +2,9 @@
 ghost use Rattle.std.specs.Prelude.{◌↔◌, IsTrue, All};
 ghost use Rattle.p9_abs.specs.Modules.{named_by_operand, named_by_piece};
 ghost use Rattle.p9_abs.specs.Validity.{IsWithin, NamesWithin};
+ghost use Rattle.p9_obj.specs.Rules.{NamesSymbols};
 
-use p9_abs::{Abs, Body, DataPiece, Operand};
+use p9_abs::{Abs, Body, DataPiece, Operand, TextDef};
 
 fn is_operand_within(count: usize, operand: Operand) -> bool
     ensures { IsTrue result ↔ IsWithin count (named_by_operand operand) }
@@ -31,10 +32,23 @@ fn are_operands_within(count: usize, operands: &[Operand]) -> bool
     operands.iter().all(|o| is_operand_within(count, *o))
 }
 
-fn is_code_within(count: usize, code: &[Abs]) -> bool
-    ensures { IsTrue result ↔ All (λ a. All (λ o. IsWithin count (named_by_operand o)) a.operands) code.now }
+#[tactic(auto, unfolding(crate::specs::Rules::NamesSymbols))]
+fn names_symbols(count: usize, a: &Abs) -> bool
+    ensures { IsTrue result ↔ NamesSymbols count a.now }
 {
-    code.iter().all(|a| are_operands_within(count, &a.operands.list))
+    are_operands_within(count, &a.operands.list)
+}
+
+fn is_code_within(count: usize, code: &[Abs]) -> bool
+    ensures { IsTrue result ↔ All (NamesSymbols count) code.now }
+{
+    code.iter().all(|a| names_symbols(count, a))
+}
+
+fn is_text_within(count: usize, def: &TextDef) -> bool
+    ensures { IsTrue result ↔ All (NamesSymbols count) def.now.code }
+{
+    is_code_within(count, &def.code.list)
 }
 
 fn are_pieces_within(count: usize, pieces: &[DataPiece]) -> bool
@@ -49,7 +63,7 @@ pub(crate) fn names_within(count: usize, body: &Body) -> bool
     ensures { IsTrue result ↔ NamesWithin count body.now }
 {
     match body {
-        Body::Text(def) => is_code_within(count, &def.code.list),
+        Body::Text(def) => is_text_within(count, def),
         Body::Data(pieces) => are_pieces_within(count, &pieces.list),
         _ => true,
     }

@@ -25,11 +25,12 @@ fn is_symbol(count: usize, symbol: &Symbol) -> bool
         && has_function(&symbol.body)
 }
 
-fn are_symbols(symbols: &[Symbol]) -> bool
-    ensures { IsTrue result ↔ All (IsSymbol (length symbols.now)) symbols.now }
+// Whether each symbol keeps those rules.
+fn are_symbols(m: &AModule) -> bool
+    ensures { IsTrue result ↔ All (IsSymbol (length m.now.symbols)) m.now.symbols }
 {
-    let count = symbols.len();
-    symbols.iter().all(|s| is_symbol(count, s))
+    let count = m.symbols.list.len();
+    m.symbols.list.iter().all(|s| is_symbol(count, s))
 }
 
 /// Whether the module is valid. It takes memory for the names, to tell whether they are distinct.
@@ -37,9 +38,8 @@ fn are_symbols(symbols: &[Symbol]) -> bool
 pub fn valid(alloc: Global, m: &AModule) -> Result<bool, NoMemory>
     ensures { IfOk result (λ valid. IsTrue valid ↔ IsValid m.now) }
 {
-    let symbols = m.symbols.list.as_slice();
-    if are_symbols(symbols) {
-        are_distinct(alloc, symbols)
+    if are_symbols(m) {
+        are_distinct(alloc, &m.symbols.list)
     } else {
         Ok(false)
     }
