@@ -1,5 +1,5 @@
 -- Symbols that are apart from one another, and from those whose names were seen.
-use Rattle.std.proofs.Common.{zero, suc, ◌≡◌, ℕ, ◌-◌, ◌<◌, ◌≤◌, get_or, take, drop, not, subst, ◌↔◌, ◌||◌, Bool, true, false, List, [], ◌∷◌, length, All, AllPairs, slice_index_or, bytes_eq, refl, sym, ap, ◌∙◌, true≢false, arith}
+use Rattle.std.proofs.Common.{suc, ◌≡◌, ℕ, ◌-◌, ◌≤◌, get_or, take, drop, not, subst, ◌↔◌, ◌||◌, Bool, true, false, List, [], ◌∷◌, length, All, AllPairs, slice_index_or, bytes_eq, refl, sym, ap, ◌∙◌, true≢false, arith}
 use Rattle.std.specs.Cmp.Lexicographic.{bytes_decides}
 use Rattle.std.proofs.lemmas.List.Elements.{All-nil, All-cons, All-head, All-tail}
 use Rattle.std.proofs.lemmas.List.Kept.{AllPairs-cons}
@@ -18,6 +18,7 @@ alike s t same named = by s.local t.local refl refl
   where
     test : bytes_eq s.name t.name ≡ true
     test = (bytes_decides s.name t.name).1 named
+
     by : (a b : Bool) → s.local ≡ a → t.local ≡ b → is_alike s t ≡ true
     by true true p q = rw (p, q) test
     by false false p q = rw (p, q) test
@@ -60,7 +61,7 @@ fresh_on locals globals s after new_locals new_globals notes f =
     let apart = first-apart s after f.apart in
     record {
       unseen = λ k d lt. by (slice_index_or after k d) (old k d lt) (apart k d lt);
-      apart = rest-apart s after f.apart
+      apart = rest-apart s after f.apart;
     }
   where
     by : (t : Symbol) → holds locals globals t ≡ false → AreApart s t → holds new_locals new_globals t ≡ false
@@ -70,7 +71,7 @@ pub fresh_back : (locals globals : List (List ℕ)) (s : Symbol) (after : List S
 fresh_back locals globals s after new_locals new_globals new notes f =
     record {
       unseen = All-cons (λ t. holds locals globals t ≡ false) s after new (λ k d lt. (parts (slice_index_or after k d) (f.unseen k d lt)).1);
-      apart = AllPairs-cons AreApart s after (λ k d lt. apart-of s (slice_index_or after k d) (parts (slice_index_or after k d) (f.unseen k d lt)).0) f.apart
+      apart = AllPairs-cons AreApart s after (λ k d lt. apart-of s (slice_index_or after k d) (parts (slice_index_or after k d) (f.unseen k d lt)).0) f.apart;
     }
   where
     parts : (t : Symbol) → holds new_locals new_globals t ≡ false → (is_alike s t ≡ false) × (holds locals globals t ≡ false)
@@ -106,5 +107,5 @@ fresh_turn locals globals symbols (y ∷ after) next s new_locals new_globals b 
     let noted : Notes locals globals y new_locals new_globals = subst Q here notes in
     subst P (sym same) (
       λ f. h.0 (fresh_back locals globals y after new_locals new_globals unseen noted f),
-      λ a. fresh_on locals globals y after new_locals new_globals noted (h.1 a)
+      λ a. fresh_on locals globals y after new_locals new_globals noted (h.1 a),
     )

@@ -1,5 +1,5 @@
 -- What recursions over a list say of its last element.
-use Rattle.std.proofs.Common.{suc, ◌≡◌, ℕ, ◌-◌, ◌⊎◌, ◌↔◌, IsTrue, Bool, List, [], ◌∷◌, Some, None, slice_get, length, subst, arith}
+use Rattle.std.proofs.Common.{suc, ◌≡◌, ℕ, ◌-◌, ◌⊎◌, ◌↔◌, List, [], ◌∷◌, Some, slice_get, length, subst, arith}
 use Rattle.p9_abs.specs.declared.instructions.Op.TheVariants.{Jmp, Ret}
 use Rattle.p9_abs.specs.declared.instructions.Abs.{Abs}
 use Rattle.p9_abs.specs.declared.instructions.Operand.{Operand}

@@ -36,5 +36,5 @@ text_within count body def b is g =
     let Q : Body → Type 0 = λ v. IsTrue b ↔ NamesWithin count v in
     subst Q (sym is) (
       λ t. (all-flat P f def.code (g.0 t), All-nil (λ p. IsWithin count (named_by_piece p))),
-      λ n. g.1 (flat-all P f def.code n.0)
+      λ n. g.1 (flat-all P f def.code n.0),
     )

@@ -1,5 +1,5 @@
 -- A module's rules, gathered by its symbols.
-use Rattle.std.proofs.Common.{zero, suc, ◌≡◌, ◌↔◌, ◌-◌, ◌<◌, ◌≤◌, ℕ, List, [], ◌∷◌, Bool, true, false, IsTrue, length, get_or, take, drop, All, AllPairs, refl, sym, subst, ◌∙◌, true≢false, arith}
+use Rattle.std.proofs.Common.{◌≡◌, ◌↔◌, ◌-◌, ◌<◌, ◌≤◌, List, [], ◌∷◌, Bool, true, false, IsTrue, length, get_or, take, drop, All, AllPairs, refl, sym, subst, ◌∙◌, true≢false, arith}
 use Rattle.std.proofs.lemmas.List.Elements.{All-nil, All-cons, All-tail}
 use Rattle.std.proofs.lemmas.Grind.{common_steps}
 use Rattle.p9_abs.specs.declared.modules.AModule.{AModule}
@@ -15,7 +15,7 @@ valid_of m h apart = record {
   numbers = λ k d lt. (h k d lt).numbers;
   pieces = λ k d lt. (h k d lt).pieces;
   sizes = λ k d lt. (h k d lt).size;
-  functions = λ k d lt. (h k d lt).function
+  functions = λ k d lt. (h k d lt).function;
 }
 
 pub symbols_of : (m : AModule) → IsValid m → All (IsSymbol (length m.symbols)) m.symbols
@@ -26,7 +26,7 @@ symbols_of m v k d lt = record {
   numbers = v.numbers k d lt;
   size = v.sizes k d lt;
   pieces = v.pieces k d lt;
-  function = v.functions k d lt
+  function = v.functions k d lt;
 }
 
 -- a module with a symbol that breaks a rule

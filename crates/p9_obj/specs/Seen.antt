@@ -1,5 +1,5 @@
 -- The names that were seen among symbols, those of local ones and those of global ones.
-use Rattle.std.specs.Prelude.{◌≡◌, ℕ, Bool, true, false, ◌||◌, List, bytes_eq, if◌then◌else◌}
+use Rattle.std.specs.Prelude.{◌≡◌, ℕ, Bool, false, ◌||◌, List, bytes_eq, if◌then◌else◌}
 use Rattle.std.specs.List.{list_any}
 use Rattle.p9_abs.specs.declared.modules.Symbol.{Symbol}
 

@@ -41,7 +41,6 @@ fn begins_raw(pieces: &[DataPiece]) -> bool
     }
 }
 
-
 fn are_parted(pieces: &[DataPiece]) -> bool
     ensures { IsTrue result ↔ NoRawNeighbours pieces.now }
 {

@@ -21,7 +21,6 @@ fn is_end(op: Op) -> bool
     }
 }
 
-
 fn ends_well(code: &[Abs]) -> bool
     ensures { IsTrue result ↔ EndsWell code.now }
 {

@@ -72,7 +72,6 @@ fn may_be_written(operand: Operand) -> bool
     }
 }
 
-
 fn is_writable(operands: &[Operand]) -> bool
     ensures { IsTrue result ↔ IsWritable operands.now }
 {

@@ -1,4 +1,4 @@
-use Rattle.std.proofs.Common.{◌↔◌, ◌∙◌, sym}
+use Rattle.std.proofs.Common.{sym}
 use Rattle.p9_obj.proofs.Lasts.{ends_last}
 use Rattle.p9_obj.proofs.functions.ends_well.Goals as goal
 

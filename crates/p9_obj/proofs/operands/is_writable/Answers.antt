@@ -1,4 +1,4 @@
-use Rattle.std.proofs.Common.{◌↔◌, ◌∙◌, sym}
+use Rattle.std.proofs.Common.{sym}
 use Rattle.p9_obj.proofs.Lasts.{writable_last}
 use Rattle.p9_obj.proofs.operands.is_writable.Goals as goal
 

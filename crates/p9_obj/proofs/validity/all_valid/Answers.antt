@@ -1,4 +1,4 @@
-use Rattle.std.proofs.Common.{refl, IsTrue}
+use Rattle.std.proofs.Common.{refl}
 use Rattle.p9_abs.specs.Validity.{IsValid}
 use Rattle.p9_obj.proofs.Whole.{all_turn, all_end}
 use Rattle.p9_obj.proofs.validity.all_valid.Goals as goal
