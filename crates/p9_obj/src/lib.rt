@@ -10,4 +10,4 @@ mod operands;
 mod spelling;
 mod validity;
 
-pub use validity::{all_valid, valid};
+pub use validity::{all_numbered, all_valid, valid};

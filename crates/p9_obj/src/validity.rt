@@ -1,5 +1,5 @@
 // Whether a module is valid.
-ghost use Rattle.std.specs.Prelude.{◌↔◌, IsTrue, IfOk, All, length};
+ghost use Rattle.std.specs.Prelude.{◌↔◌, ◌<◌, ◌^◌, IsTrue, IfOk, All, length};
 ghost use Rattle.p9_abs.specs.Validity.{IsValid};
 ghost use Rattle.p9_obj.specs.Rules.{IsSymbol};
 
@@ -33,6 +33,12 @@ fn are_symbols(m: &AModule) -> bool
     m.symbols.list.iter().all(|s| is_symbol(count, s))
 }
 
+fn is_numbered(m: &AModule) -> bool
+    ensures { IsTrue result ↔ (length m.now.symbols < 2 ^ 32) }
+{
+    m.symbols.list.len() < 0x1_0000_0000
+}
+
 /// Whether the module is valid. It takes memory for the names, to tell whether they are distinct.
 
 pub fn valid(alloc: Global, m: &AModule) -> Result<bool, NoMemory>
@@ -57,4 +63,11 @@ pub fn all_valid(alloc: Global, modules: &[AModule]) -> Result<bool, NoMemory>
         rest = after;
     }
     Ok(true)
+}
+
+/// Whether each of the modules has so few symbols that 32 bits number them.
+pub fn all_numbered(modules: &[AModule]) -> bool
+    ensures { IsTrue result ↔ All (λ m. length m.symbols < 2 ^ 32) modules.now }
+{
+    modules.iter().all(is_numbered)
 }
