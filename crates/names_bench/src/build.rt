@@ -1,5 +1,5 @@
 // The modules: each defines some 390 names, and uses some of those of the module before it.
-ghost use Rattle.std.specs.Prelude.{◌<◌, ◌≤◌, ◌+◌};
+ghost use Rattle.std.specs.Prelude.{◌<◌, ◌≤◌};
 
 use p9_abs::{
     AModule, Abs, Body, Code, DataPiece, Op, Operands, Pieces, Symbol, Symbols, TextDef,
@@ -72,25 +72,25 @@ fn symbol(alloc: Global, number: u32, body: Body) -> Result<Symbol, NoMemory> {
 }
 
 // The first name of a module.
-fn first_name(module: u32) -> u32
-    requires { module ≤ MODULES }
+fn first_name(number: u32) -> u32
+    requires { number ≤ MODULES }
 {
-    module * NAMES / MODULES
+    number * NAMES / MODULES
 }
 
 // The module of that number: it defines its names, and uses each eighth of those of the one before.
-fn module(alloc: Global, module: u32) -> Result<AModule, NoMemory>
-    requires { module < MODULES }
+fn module(alloc: Global, number: u32) -> Result<AModule, NoMemory>
+    requires { number < MODULES }
 {
-    let first = first_name(module);
+    let first = first_name(number);
     let mut list = Vec::new(alloc);
-    for number in first..first_name(module + 1) {
-        let body = body(alloc, number)?;
-        list.push(symbol(alloc, number, body)?)?;
+    for defined in first..first_name(number + 1) {
+        let body = body(alloc, defined)?;
+        list.push(symbol(alloc, defined, body)?)?;
     }
-    for number in first_name(module.saturating_sub(1))..first {
-        if number % 8 == 0 {
-            list.push(symbol(alloc, number, Body::Used)?)?;
+    for used in first_name(number.saturating_sub(1))..first {
+        if used % 8 == 0 {
+            list.push(symbol(alloc, used, Body::Used)?)?;
         }
     }
     Ok(AModule {

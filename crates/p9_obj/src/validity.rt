@@ -52,10 +52,10 @@ pub fn valid(alloc: Global, m: &AModule) -> Result<bool, NoMemory>
 }
 
 /// Whether each of the modules is valid.
-pub fn all_valid(alloc: Global, modules: &[AModule]) -> Result<bool, NoMemory>
-    ensures { IfOk result (λ valid. IsTrue valid ↔ All IsValid modules.now) }
+pub fn all_valid(alloc: Global, modules: &Vec<AModule>) -> Result<bool, NoMemory>
+    ensures { IfOk result (λ valid. IsTrue valid ↔ All IsValid modules.now.items) }
 {
-    let mut rest = modules;
+    let mut rest = modules.as_slice();
     while let [first, after @ ..] = rest {
         if !valid(alloc, first)? {
             return Ok(false);
@@ -66,8 +66,8 @@ pub fn all_valid(alloc: Global, modules: &[AModule]) -> Result<bool, NoMemory>
 }
 
 /// Whether each of the modules has so few symbols that 32 bits number them.
-pub fn all_numbered(modules: &[AModule]) -> bool
-    ensures { IsTrue result ↔ All (λ m. length m.symbols < 2 ^ 32) modules.now }
+pub fn all_numbered(modules: &Vec<AModule>) -> bool
+    ensures { IsTrue result ↔ All (λ m. length m.symbols < 2 ^ 32) modules.now.items }
 {
     modules.iter().all(is_numbered)
 }
