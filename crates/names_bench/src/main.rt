@@ -46,7 +46,7 @@ fn main(rt: HostRuntime) -> io::Result<()> {
         return println!(rt; "not valid");
     }
     if !all_numbered(&modules) || modules.len() > 1000 {
-        return println!(rt; "too many");
+        return println!(rt; "too many symbols");
     }
     for _ in words {
         join(&rt, alloc, &modules)?;
