@@ -105,7 +105,7 @@ pub(crate) fn symbol(alloc: Global, sample: &Sample, local: bool) -> Result<Symb
 pub(crate) fn module(alloc: Global, samples: &[Sample]) -> Result<AModule, NoMemory> {
     let mut list = Vec::new(alloc);
     for sample in samples {
-        list.push(symbol(alloc, global, false)?)?;
+        list.push(symbol(alloc, sample, false)?)?;
     }
     Ok(AModule {
         symbols: Symbols { list },
@@ -131,7 +131,9 @@ pub(crate) fn joined(
     modules: &Vec<AModule>,
 ) -> Result<Table, LinkFault> {
     let valid = all_valid(alloc, modules)?;
-    assert!(rt; valid);
+    if !valid {
+        panic!(rt; "a module is not valid");
+    }
     let numbered = all_numbered(modules);
     assert!(rt; numbered);
     let few = modules.len() < 1000;
