@@ -1,13 +1,12 @@
 // The modules: each defines some 390 names, and uses some of those of the module before it.
 ghost use Rattle.std.specs.Prelude.{◌<◌, ◌≤◌};
 
-use p9_abs::{
-    AModule, Abs, Body, Code, DataPiece, Op, Operands, Pieces, Symbol, Symbols, TextDef,
-};
+use p9_abs::{AModule, Abs, Body, Code, DataPiece, Op, Operands, Pieces, Symbol, Symbols, TextDef};
 use p9_base::{Bytes, Name, NoMemory};
 use std::alloc::Global;
 
 const MODULES: u32 = 256;
+
 const NAMES: u32 = 100_000;
 
 // Name 0 is main, and the others are made of their number's digits.

@@ -13,8 +13,7 @@ use p9_abs::AModule;
 use p9_names::resolve;
 use p9_obj::{all_numbered, all_valid};
 use std::alloc::Global;
-use std::env;
-use std::io;
+use std::{env, io};
 
 // Joins the modules, and prints how many names they define.
 fn join(rt: &impl Print, alloc: Global, modules: &Vec<AModule>) -> io::Result<()>

@@ -1,5 +1,5 @@
 use crate::samples::{
-    Cause, Kind, common, data, joined, main, module, place, refused, global, symbol, two,
+    Cause, Kind, common, data, global, joined, main, module, place, refused, symbol, two,
 };
 use p9_abs::{AModule, Symbols};
 use p9_names::Def;
@@ -40,10 +40,22 @@ fn data_before_common(rt: HostRuntime) -> Result<(), Fail> {
     let alloc = rt.alloc();
     let mut modules = two(alloc, &[main(), common(b"x", 4)], &[common(b"x", 4)])?;
     let without = place(&rt, alloc, &modules, b"x")?;
-    assert_eq!(rt; without, Some(Def { module: 0, symbol: 1 }));
+    assert_eq!(rt;
+        without,
+        Some(Def {
+            module: 0,
+            symbol: 1
+        })
+    );
     modules.push(module(alloc, &[data(b"x", b"four")])?)?;
     let with = place(&rt, alloc, &modules, b"x")?;
-    assert_eq!(rt; with, Some(Def { module: 2, symbol: 0 }));
+    assert_eq!(rt;
+        with,
+        Some(Def {
+            module: 2,
+            symbol: 0
+        })
+    );
     Ok(())
 }
 
@@ -101,7 +113,11 @@ fn twice_before_main(rt: HostRuntime) -> Result<(), Fail> {
     let modules = two(alloc, &[data(b"x", b"four")], &[data(b"x", b"four")])?;
     refused(&rt, alloc, &modules, Cause::Twice, b"x", 0, 1);
     let wrong_main = global(b"main", b"()i", Kind::Returns);
-    let modules = two(alloc, &[data(b"x", b"four"), wrong_main], &[data(b"x", b"four")])?;
+    let modules = two(
+        alloc,
+        &[data(b"x", b"four"), wrong_main],
+        &[data(b"x", b"four")],
+    )?;
     refused(&rt, alloc, &modules, Cause::Twice, b"x", 0, 1);
     Ok(())
 }
