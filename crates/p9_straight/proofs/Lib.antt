@@ -2,3 +2,5 @@ pub mod FormRun
 pub mod Placed
 pub mod SourceLists
 pub mod SourceRun
+pub mod SourceForm
+pub mod SourceTyped
