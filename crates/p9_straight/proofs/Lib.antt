@@ -4,3 +4,4 @@ pub mod SourceLists
 pub mod SourceRun
 pub mod SourceForm
 pub mod SourceTyped
+pub mod SourceSymbols
