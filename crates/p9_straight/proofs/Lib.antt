@@ -5,3 +5,4 @@ pub mod SourceRun
 pub mod SourceForm
 pub mod SourceTyped
 pub mod SourceSymbols
+pub mod SourceEntries
