@@ -6,3 +6,4 @@ pub mod SourceForm
 pub mod SourceTyped
 pub mod SourceSymbols
 pub mod SourceEntries
+pub mod SourceUnion

@@ -112,11 +112,11 @@ texts_sound P texts m (t ∷ ts) h =
     ((refl, subst (λ n. slice_get texts n ≡ Some t) e (h 0 t refl), (decimal m, refl)),
     texts_sound P texts (m + 1) ts (λ j b g. let d : m + suc j ≡ m + 1 + j = omega arith in subst (λ n. slice_get texts n ≡ Some b) d (h (suc j) b g)))
 
-abbrev mains_of : Option (List Statement) → List (List Statement)
+abbrev pub mains_of : Option (List Statement) → List (List Statement)
 mains_of None = []
 mains_of (Some ss) = ss ∷ []
 
-mains_are : (file : File) → main_in file ≡ mains_of file.main
+pub mains_are : (file : File) → main_in file ≡ mains_of file.main
 mains_are file = by file.main
   where
     by : (main : Option (List Statement)) → main_in (record file { main = main }) ≡ mains_of main
@@ -158,7 +158,7 @@ common_shared x i s l k n =
     ∙ ap (λ c. is_shared_common x (entry i (record s { is_local = false; kind = c }))) k
     ∙ and_true (same_name x s.name) true n refl
 
-abbrev named : List ℕ → Initial → Bool
+abbrev pub named : List ℕ → Initial → Bool
 named x v = same_name x v.name
 
 -- one of one
