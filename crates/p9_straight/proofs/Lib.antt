@@ -7,3 +7,4 @@ pub mod SourceTyped
 pub mod SourceSymbols
 pub mod SourceEntries
 pub mod SourceUnion
+pub mod SourceObjects

@@ -51,7 +51,7 @@ bool_cases false f g = g refl
 
 -- Names
 
-eq_of : (a b : ℕ) → (a == b) ≡ true → a ≡ b
+pub eq_of : (a b : ℕ) → (a == b) ≡ true → a ≡ b
 eq_of a b h = grind (arith, nat_tests)
 
 pub eq_self : (a : ℕ) → (a == a) ≡ true
