@@ -8,3 +8,4 @@ pub mod SourceSymbols
 pub mod SourceEntries
 pub mod SourceUnion
 pub mod SourceObjects
+pub mod SourceMeaning
