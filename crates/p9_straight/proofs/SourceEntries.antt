@@ -1,13 +1,11 @@
 -- The symbols of a file's module, one by one: what each makes, and which there are.
-use Rattle.std.proofs.Common.{◌≡◌, ◌≢◌, ◌<◌, ◌≤◌, ℕ, zero, suc, ◌+◌, Bool, true, false, not, ◌&&◌, ◌||◌, if◌then◌else◌, List, [], ◌∷◌, ◌++◌, length, map, Some, None, Option, refl, sym, ap, ◌∙◌, subst, arith, append-nil, append_assoc}
+use Rattle.std.proofs.Common.{◌≡◌, ℕ, zero, suc, ◌+◌, Bool, true, false, ◌&&◌, ◌||◌, if◌then◌else◌, List, [], ◌∷◌, ◌++◌, map, Some, None, Option, refl, sym, ap, ◌∙◌, subst, arith, append_assoc}
 use Rattle.std.specs.Prelude.{◌==◌, codes, flat_map, slice_get, decimal}
 use Rattle.std.specs.List.{list_any}
-use Rattle.p9_lang.specs.declared.tree.Kind.TheVariants as kind
 use Rattle.p9_lang.specs.Types.{TypeTree, Int, Long}
 use Rattle.p9_lang.specs.Layout.{size_of}
-use Rattle.p9_lang.specs.Trees.{node, none}
 use Rattle.p9_lang.specs.Form.{same_name}
-use Rattle.p9_lang.specs.Modules.{Label, Typed, Source, SymbolKind, DeclaredOnly, Used, Code, Data, TextData, Common, Symbol, text_symbol, symbols}
+use Rattle.p9_lang.specs.Modules.{Typed, Source, SymbolKind, DeclaredOnly, Used, Code, Data, TextData, Common, Symbol, text_symbol, symbols}
 use Rattle.p9_form.specs.declared.file.Statement.{Statement}
 use Rattle.p9_form.specs.declared.file.First.{First}
 use Rattle.p9_form.specs.declared.file.First.TheVariants as first
@@ -15,9 +13,9 @@ use Rattle.p9_form.specs.declared.file.Declaration.{Declaration}
 use Rattle.p9_form.specs.declared.file.File.{File}
 use Rattle.p9_form.specs.Sharing.{declarations, Initial, initial_in, tentative_in, main_in}
 use Rattle.p9_cmean.specs.Access.{number_cells}
-use Rattle.p9_cmean.specs.Union.{Entry, is_shared_data, is_shared_common, value_cells, is_shared_of, is_text_of, Defined, code_of, first_code}
+use Rattle.p9_cmean.specs.Union.{Entry, is_shared_data, is_shared_common, value_cells, is_shared_of, is_text_of, first_code}
 use Rattle.p9_cmean.proofs.Variables.{IsVariableType}
-use Rattle.p9_straight.proofs.SourceLists.{Each, each_append, each_left, each_right, each_weaker, each_map, bool_cases, eq_self, same_is, same_self, any_left, any_right, any_either, flat_append}
+use Rattle.p9_straight.proofs.SourceLists.{Each, each_append, each_left, each_right, each_weaker, each_map, eq_self, any_left, any_right, any_either, flat_append}
 use Rattle.p9_straight.proofs.SourceTyped.{Thing, AVariable, AMain, main_thing, things, MainItem, numbered, text_list, main_texts}
 use Rattle.p9_straight.proofs.SourceSymbols.{IsMere, IsKind, Makes, Make, IsSystemSymbol, HasSymbols}
 
@@ -100,17 +98,19 @@ own_sound : (P : Initial → Type 0) (texts : List (List ℕ)) (ts : List Thing)
 own_sound P texts [] [] h p = tt
 own_sound P texts [] (s ∷ own) h p = absurd h
 own_sound P texts (t ∷ ts) [] h p = absurd h
-own_sound P texts (t ∷ ts) (s ∷ own) h p =
-    (thing_sound P texts t s h.0 (each_left P (initials_by t) (flat_map initials_by ts) p),
-    own_sound P texts ts own h.1 (each_right P (initials_by t) (flat_map initials_by ts) p))
+own_sound P texts (t ∷ ts) (s ∷ own) h p = (
+  thing_sound P texts t s h.0 (each_left P (initials_by t) (flat_map initials_by ts) p),
+  own_sound P texts ts own h.1 (each_right P (initials_by t) (flat_map initials_by ts) p),
+)
 
 texts_sound : (P : Initial → Type 0) (texts : List (List ℕ)) (m : ℕ) (ts : List (List ℕ)) → ((j : ℕ) (b : List ℕ) → slice_get ts j ≡ Some b → slice_get texts (m + j) ≡ Some b)
     → Each (Sound P texts) (map text_symbol (numbered m ts))
 texts_sound P texts m [] h = tt
 texts_sound P texts m (t ∷ ts) h =
-    let e : m + 0 ≡ m = omega arith in
-    ((refl, subst (λ n. slice_get texts n ≡ Some t) e (h 0 t refl), (decimal m, refl)),
-    texts_sound P texts (m + 1) ts (λ j b g. let d : m + suc j ≡ m + 1 + j = omega arith in subst (λ n. slice_get texts n ≡ Some b) d (h (suc j) b g)))
+    let e : m + 0 ≡ m = omega arith in (
+      (refl, subst (λ n. slice_get texts n ≡ Some t) e (h 0 t refl), (decimal m, refl)),
+      texts_sound P texts (m + 1) ts (λ j b g. let d : m + suc j ≡ m + 1 + j = omega arith in subst (λ n. slice_get texts n ≡ Some b) d (h (suc j) b g)),
+    )
 
 abbrev pub mains_of : Option (List Statement) → List (List Statement)
 mains_of None = []

@@ -1,12 +1,10 @@
 -- What the form says of a file: new names, numbers within bounds, and statements that name what is declared.
-use Rattle.std.proofs.Common.{◌≡◌, ◌≢◌, ◌<◌, ◌≤◌, ℕ, zero, suc, ◌+◌, Bool, true, false, not, ◌&&◌, ◌||◌, List, [], ◌∷◌, ◌++◌, All, Some, None, Option, refl, sym, ap, ◌∙◌, subst, arith}
+use Rattle.std.proofs.Common.{◌≡◌, ◌≢◌, ◌≤◌, ℕ, ◌+◌, Bool, true, false, not, List, [], ◌∷◌, All, Some, None, Option, refl, sym, ◌∙◌, subst}
 use Rattle.std.proofs.lemmas.List.Elements.{All-nil, All-cons}
-use Rattle.std.specs.Prelude.{◌==◌, codes}
 use Rattle.std.specs.List.{list_all}
 use Rattle.p9_lang.specs.declared.tree.Kind.TheVariants as kind
-use Rattle.p9_lang.specs.declared.tree.SpecWord.TheVariants as word
-use Rattle.p9_lang.specs.Trees.{node, none, more, Syntax, SyntaxRow}
-use Rattle.p9_lang.specs.Form.{is_among, is_text_byte, is_variable_name, IsOperand, IsSum, IsExitText, IsEffect, IsStatement, AreStatements, IsDeclaration, names_after, AreDeclarations, AreItems, IsFile}
+use Rattle.p9_lang.specs.Trees.{node, none, more, SyntaxRow}
+use Rattle.p9_lang.specs.Form.{is_among, is_text_byte, is_variable_name, IsOperand, IsSum, IsStatement, AreStatements, names_after, AreDeclarations, AreItems, IsFile}
 use Rattle.p9_form.specs.declared.file.Operand.{Operand}
 use Rattle.p9_form.specs.declared.file.Operand.TheVariants.{Variable, Number}
 use Rattle.p9_form.specs.declared.file.Statement.{Statement}
@@ -15,9 +13,9 @@ use Rattle.p9_form.specs.declared.file.First.{First}
 use Rattle.p9_form.specs.declared.file.First.TheVariants as first
 use Rattle.p9_form.specs.declared.file.Declaration.{Declaration}
 use Rattle.p9_form.specs.declared.file.File.{File}
-use Rattle.p9_form.specs.Items.{operand_tree, sum_tree, effect_tree, statement_tree, statement_trees, statement_size, declaration_tree, declaration_trees, declaration_size, declarations_size, main_tree, main_trees, main_size, items_of}
+use Rattle.p9_form.specs.Items.{operand_tree, sum_tree, statement_tree, statement_trees, statement_size, declaration_tree, declaration_trees, declaration_size, declarations_size, main_trees, main_size, items_of}
 use Rattle.p9_straight.proofs.SourceLists.{both_left, both_right, not_true}
-use Rattle.p9_straight.proofs.SourceRun.{FineOperand, FineIf, FineExit, Fine, AreFine}
+use Rattle.p9_straight.proofs.SourceRun.{FineOperand, FineIf, Fine, AreFine}
 
 abbrev pub IsBounded : First → Type 0
 IsBounded first.Extern = Unit {0}
@@ -112,9 +110,10 @@ fine_statements names a (s ∷ ss) h = (fine_statement names a s h.0, fine_state
 main_form : (names : List (List ℕ)) (a : ℕ) (main : Option (List Statement)) (after : List Declaration) → AreItems names (main_trees a main after)
     → AreNew names after × MainIsFine names main
 main_form names a None after h = ((are_new names a after none h).0, tt)
-main_form names a (Some ss) after h =
-    ((are_new names (a + main_size ss) after none (are_items names (declaration_trees (a + main_size ss) after none) h.1)).0,
-    fine_statements names (a + 6) ss h.0.2)
+main_form names a (Some ss) after h = (
+  (are_new names (a + main_size ss) after none (are_items names (declaration_trees (a + main_size ss) after none) h.1)).0,
+  fine_statements names (a + 6) ss h.0.2,
+)
 
 pub file_form : (file : File) → IsFile (items_of file) → FileForm file
 file_form file h =

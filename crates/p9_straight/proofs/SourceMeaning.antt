@@ -1,10 +1,10 @@
 -- The run of the sources of files that are joined comes to what `main`'s statements come to by values alone.
-use Rattle.std.proofs.Common.{◌≡◌, ◌≢◌, ◌<◌, ◌≤◌, ℕ, zero, suc, ◌+◌, Bool, true, false, ◌||◌, if◌then◌else◌, nat_lt, List, [], ◌∷◌, ◌++◌, length, map, All, Some, None, Option, refl, sym, ap, ◌∙◌, subst, arith, length-append, append_assoc}
+use Rattle.std.proofs.Common.{◌≡◌, ◌≤◌, ℕ, zero, suc, ◌+◌, true, ◌||◌, if◌then◌else◌, nat_lt, List, [], ◌∷◌, ◌++◌, length, map, All, Some, None, Option, refl, sym, ap, ◌∙◌, subst, arith, length-append, append_assoc}
 use Rattle.std.specs.Prelude.{codes, flat_map, slice_get, Contains}
 use Rattle.std.specs.List.{list_any}
 use Rattle.p9_lang.specs.Form.{same_name, is_variable_name, IsFile}
-use Rattle.p9_lang.specs.Typing.{Has, Scope, named as named_in}
-use Rattle.p9_lang.specs.Types.{TypeTree, Outer}
+use Rattle.p9_lang.specs.Typing.{Has, named as named_in}
+use Rattle.p9_lang.specs.Types.{Outer}
 use Rattle.p9_lang.specs.Modules.{Source, Typed, judged_type}
 use Rattle.p9_form.specs.declared.file.Operand.{Operand}
 use Rattle.p9_form.specs.declared.file.Operand.TheVariants.{Variable, Number}
@@ -12,22 +12,22 @@ use Rattle.p9_form.specs.declared.file.Statement.{Statement}
 use Rattle.p9_form.specs.declared.file.Statement.TheVariants.{Assign, Write, Exits}
 use Rattle.p9_form.specs.declared.file.File.{File}
 use Rattle.p9_form.specs.Items.{items_of, source_of}
-use Rattle.p9_form.specs.Sharing.{named_by, named_if, names_in, Initial, initials, tentatives, defined_names, mains, AreJoined}
-use Rattle.p9_cmean.specs.Cells.{State}
+use Rattle.p9_form.specs.Sharing.{named_by, named_if, names_in, initials, tentatives, defined_names, mains, AreJoined}
 use Rattle.p9_cmean.specs.Turns.{Outcome, Deep, Over, End, resolve, calls_to}
-use Rattle.p9_cmean.specs.Union.{entries, is_text_of, Defined, first_objects, base_need}
+use Rattle.p9_cmean.specs.Union.{entries, Defined, first_objects, base_need, definition, is_shared_common, is_shared_data}
 use Rattle.p9_cmean.specs.Statements.{item_body}
 use Rattle.p9_cmean.specs.CRun.{surroundings, body_of, function_need, functions_of, main_name, main_call, first_state, run_of, outcome_of, source_run}
 use Rattle.p9_cmean.proofs.Runs.{source_run_is}
 use Rattle.p9_straight.specs.Code.{main_of, first_of}
-use Rattle.p9_straight.proofs.FormRun.{Values, Came, ComesTo, initial_of, statements_run, form_run}
-use Rattle.p9_straight.proofs.SourceLists.{Each, each_both, each_from_all, each_left, each_right, first_true, or_true, bool_cases, any_either, any_map, any_contained}
+use Rattle.p9_straight.proofs.FormRun.{Came, ComesTo, initial_of, statements_run, form_run}
+use Rattle.p9_straight.proofs.SourceLists.{Each, each_both, each_from_all, each_left, each_right, first_true, or_true, bool_cases, any_either, any_map, any_contained, each_weaker}
 use Rattle.p9_straight.proofs.SourceRun.{Setting, Shows, FineOperand, FineIf, Fine, AreFine, text_count, HasText, HaveTexts, run_comes}
 use Rattle.p9_straight.proofs.SourceForm.{Among}
-use Rattle.p9_straight.proofs.SourceTyped.{each_among, MainItem, texts_by, text_list}
+use Rattle.p9_straight.proofs.SourceTyped.{each_among, texts_by, text_list}
 use Rattle.p9_straight.proofs.SourceEntries.{Sound}
 use Rattle.p9_straight.proofs.SourceUnion.{AreFiles, all_sound, all_data, all_common, HasMain, has_main, small_values, first_values}
-use Rattle.p9_straight.proofs.SourceObjects.{dotless, variable_dotless, number_of, static_of, IsFirst, is_given, first_holder, variable_pointer, function_is, variables_apart, text_at, first_text, text_apart}
+use Rattle.p9_straight.proofs.SourceObjects.{variable_dotless, number_of, static_of, IsFirst, is_given, first_holder, variable_pointer, function_is, variables_apart, text_at, first_text, text_apart}
+use Rattle.p9_cmean.proofs.Variables.{IsVariableType}
 
 -- The texts of statements, by their numbers
 
@@ -50,10 +50,11 @@ has_text before (Exits (Some text)) rest = get_behind before text rest
 have_texts : (before : List (List ℕ)) (ss : List Statement) → HaveTexts (before ++ text_list ss) (length before) ss
 have_texts before [] = tt
 have_texts before (s ∷ ss) =
-    let l : length (before ++ texts_by s) ≡ length before + text_count s = length-append before (texts_by s) ∙ ap (λ n. length before + n) (count_is s) in
-    (has_text before s (text_list ss),
-    subst (λ n. HaveTexts (before ++ (texts_by s ++ text_list ss)) n ss) l
-    (subst (λ ts. HaveTexts ts (length (before ++ texts_by s)) ss) (append_assoc before (texts_by s) (text_list ss)) (have_texts (before ++ texts_by s) ss)))
+    let l : length (before ++ texts_by s) ≡ length before + text_count s = length-append before (texts_by s) ∙ ap (λ n. length before + n) (count_is s) in (
+      has_text before s (text_list ss),
+      subst (λ n. HaveTexts (before ++ (texts_by s ++ text_list ss)) n ss) l
+          (subst (λ ts. HaveTexts ts (length (before ++ texts_by s)) ss) (append_assoc before (texts_by s) (text_list ss)) (have_texts (before ++ texts_by s) ss)),
+    )
 
 -- What statements name is declared in their file and defined in one
 
@@ -100,10 +101,10 @@ module _ (files : List File) (f : AreFiles files) (joined : AreJoined files) whe
       (each_both (λ v. initial_of (initials files) v.name ≡ v.value) (λ v. v.value ≤ 2147483647) (initials files) (first_values (initials files) joined.once) (small_values files f))
       (is_one (mains files) joined.one_main)
 
-  data_there : (x : List ℕ) → list_any (is_given x) (initials files) ≡ true → list_any (Rattle.p9_cmean.specs.Union.is_shared_data x) (entries modules) ≡ true
+  data_there : (x : List ℕ) → list_any (is_given x) (initials files) ≡ true → list_any (is_shared_data x) (entries modules) ≡ true
   data_there x h = all_data x 0 files f h
 
-  common_there : (x : List ℕ) → list_any (same_name x) (tentatives files) ≡ true → list_any (Rattle.p9_cmean.specs.Union.is_shared_common x) (entries modules) ≡ true
+  common_there : (x : List ℕ) → list_any (same_name x) (tentatives files) ≡ true → list_any (is_shared_common x) (entries modules) ≡ true
   common_there x h = all_common x 0 files f h
 
   given_of : (x : List ℕ) → Contains (defined_names files) x → Given x
@@ -123,7 +124,7 @@ module _ (files : List File) (f : AreFiles files) (joined : AreJoined files) whe
       let i = m.is_item in
       record {
         type = λ x. judged_type (named_in i.scope x);
-        is_variable = λ x h. let r = i.good.variable x h.1 in subst (λ j. Rattle.p9_cmean.proofs.Variables.IsVariableType (judged_type j)) (sym r.2) r.1;
+        is_variable = λ x h. let r = i.good.variable x h.1 in subst (λ j. IsVariableType (judged_type j)) (sym r.2) r.1;
         variable = λ x h. let r = i.good.variable x h.1 in r.2 ∙ ap (λ j. Has (judged_type j) (Outer x)) (sym r.2);
         object = λ x h. variable_pointer modules (initials files) (tentatives files) texts all_are_sound data_there common_there m.owner x h.0
             (variable_dotless x (each_among (λ y. is_variable_name y ≡ true) i.names x h.1 i.variables));
@@ -145,7 +146,7 @@ module _ (files : List File) (f : AreFiles files) (joined : AreJoined files) whe
   fine : (m : HasMain joined.main (entries modules)) → AreFine (KnownIn m.is_item.names) joined.main
   fine m =
       all_fine Given (Among m.is_item.names) joined.main m.is_item.fine
-      (Rattle.p9_straight.proofs.SourceLists.each_weaker (λ x. Contains (defined_names files) x) Given given_of (flat_map names_in joined.main)
+      (each_weaker (λ x. Contains (defined_names files) x) Given given_of (flat_map names_in joined.main)
       (each_from_all (λ x. Contains (defined_names files) x) (flat_map names_in joined.main) joined.resolved))
 
   abbrev main_comes_to : (active turns : ℕ) (input : List ℕ) → Option Defined → Outcome
@@ -157,7 +158,7 @@ module _ (files : List File) (f : AreFiles files) (joined : AreJoined files) whe
       outcome_of (resolve (calls_to turns (functions_of modules)) active turns 0 (item_body turns (surroundings modules owner) item (main_call modules).place (first_state modules input)))
 
   body_comes : (m : HasMain joined.main (entries modules)) (active turns : ℕ) (input : List ℕ)
-      → ComesTo (main_comes_to active turns input (Rattle.p9_cmean.specs.Union.definition modules main_name)) (statements_run turns (initial_of (initials files)) joined.main [])
+      → ComesTo (main_comes_to active turns input (definition modules main_name)) (statements_run turns (initial_of (initials files)) joined.main [])
   body_comes m active turns input =
       subst (λ o. ComesTo (main_comes_to active turns input o) (statements_run turns (initial_of (initials files)) joined.main [])) (sym m.found)
       (subst (λ i. ComesTo (item_comes_to active turns input m.owner i) (statements_run turns (initial_of (initials files)) joined.main [])) (sym m.is_item.shape)
@@ -173,7 +174,7 @@ module _ (files : List File) (f : AreFiles files) (joined : AreJoined files) whe
   run_comes_to input (suc turns) =
       let active : ℕ = base_need + function_need modules main_name in
       let came : Came = statements_run turns (initial_of (initials files)) (main_of files) [] in
-      let rest : End = resolve (calls_to turns (functions_of modules)) active turns 0 (body_of modules turns (Rattle.p9_cmean.specs.Union.definition modules main_name) (main_call modules) (first_state modules input)) in
+      let rest : End = resolve (calls_to turns (functions_of modules)) active turns 0 (body_of modules turns (definition modules main_name) (main_call modules) (first_state modules input)) in
       bool_cases (nat_lt 16777216 active)
       (λ e. subst (λ b. ComesTo (outcome_of (if b then Over (Deep [] (main_call modules).place) 0 else rest)) came) (sym e) tt)
       (λ e. subst (λ b. ComesTo (outcome_of (if b then Over (Deep [] (main_call modules).place) 0 else rest)) came) (sym e)

@@ -1,22 +1,20 @@
 -- The objects of all files together: which object a variable's name and a text stand for, and what it holds at first.
-use Rattle.std.proofs.Common.{◌≡◌, ◌≢◌, ◌<◌, ◌≤◌, ℕ, zero, suc, ◌+◌, ◌^◌, Bool, true, false, not, ◌&&◌, ◌||◌, if◌then◌else◌, List, [], ◌∷◌, ◌++◌, length, map, replicate, Some, None, Option, refl, sym, ap, ◌∙◌, subst, arith}
-use Rattle.std.proofs.lemmas.Bool.Decides.{nat_tests}
-use Rattle.std.specs.Prelude.{◌==◌, codes, slice_get, nat_le}
+use Rattle.std.proofs.Common.{◌≡◌, ◌≢◌, ◌≤◌, ℕ, Bool, true, false, not, ◌&&◌, ◌||◌, if◌then◌else◌, List, [], ◌∷◌, replicate, Some, None, Option, refl, sym, ap, ◌∙◌, subst, arith}
+use Rattle.std.specs.Prelude.{◌==◌, slice_get}
 use Rattle.std.specs.List.{list_any}
-use Rattle.p9_lang.specs.Types.{TypeTree}
-use Rattle.p9_lang.specs.Layout.{size_of}
 use Rattle.p9_lang.specs.Form.{same_name, is_letter, is_name, is_variable_name}
-use Rattle.p9_lang.specs.Modules.{Typed, Source, SymbolKind, DeclaredOnly, Used, Code, Data, TextData, Common, Symbol}
+use Rattle.p9_lang.specs.Modules.{Source, SymbolKind, DeclaredOnly, Used, Code, Data, TextData, Common, Symbol}
 use Rattle.p9_form.specs.Sharing.{Initial}
-use Rattle.p9_cmean.specs.Cells.{FunctionName, Global, Pointer, Into, Byte, Object}
+use Rattle.p9_cmean.specs.Cells.{Global, Into, Byte, Object, Cell, Local}
 use Rattle.p9_cmean.specs.Access.{number_cells}
-use Rattle.p9_cmean.specs.Union.{Entry, entries, is_shared_data, is_shared_common, makes_object, makers, object_makers, first_cells, first_objects, number_from, is_local_of, is_shared_of, has_local, object_pointer, function_named, is_text_of, text_pointer, start_of}
+use Rattle.p9_cmean.specs.Union.{Entry, entries, is_shared_data, is_shared_common, makes_object, makers, object_makers, first_objects, number_from, is_local_of, is_shared_of, has_local, object_pointer, function_named, is_text_of, text_pointer, start_of}
 use Rattle.p9_cmean.proofs.Variables.{Holds}
 use Rattle.p9_cmean.proofs.FormCalls.{text_object}
 use Rattle.p9_cmean.proofs.FormObjects.{FoundAt, number_found, object_of, object_at}
 use Rattle.p9_straight.proofs.FormRun.{initial_of}
-use Rattle.p9_straight.proofs.SourceLists.{both_left, both_right, not_true, true_not, neither, neither_left, neither_right, or_true, first_true, or_cases, bool_cases, eq_of, same_is, Each, each_weaker, each_at, any_weaker, none_passes, number_some}
-use Rattle.p9_straight.proofs.SourceEntries.{entry, Dotted, SoundKind, Sound}
+use Rattle.p9_straight.proofs.SourceLists.{both_left, both_right, not_true, true_not, neither, neither_left, or_true, first_true, or_cases, bool_cases, eq_of, same_is, Each, each_weaker, each_at, any_weaker, none_passes, number_some}
+use Rattle.p9_straight.proofs.SourceEntries.{Dotted, SoundKind, Sound}
+use Rattle.p9_straight.proofs.SourceUnion.{no_value}
 
 -- Symbols that make objects
 
@@ -236,7 +234,7 @@ module _ (modules : List Source) (vs : List Initial) (tentative texts : List (Li
   -- the object holds the variable's first value
   first_of_common : (x : List ℕ) (b : List Entry) (l : Bool) → l ≡ false → (l || not (list_any (is_shared_data x) (entries modules) || list_any (is_shared_common x) b)) ≡ true → initial_of vs x ≡ 0
   first_of_common x b l e h =
-      Rattle.p9_straight.proofs.SourceUnion.no_value vs x
+      no_value vs x
       (bool_cases (list_any (is_given x) vs)
       (λ g. true_not (list_any (is_shared_data x) (entries modules)) (data_there x g)
       (neither_left (list_any (is_shared_data x) (entries modules)) (list_any (is_shared_common x) b)
@@ -259,8 +257,8 @@ module _ (modules : List Source) (vs : List Initial) (tentative texts : List (Li
   holds_first x e Common h s m =
       let n : x ≡ e.symbol.name = same_is x e.symbol.name (both_right (not e.symbol.is_local) (same_name x e.symbol.name) h) in
       let z : initial_of vs x ≡ 0 = first_of_common x m.0 e.symbol.is_local s.0
-          (subst (λ y. (e.symbol.is_local || not (list_any (is_shared_data y) (entries modules) || list_any (is_shared_common y) m.0)) ≡ true) (sym n) m.1) in
-      record { alive = refl; cells = ap (λ i. replicate {A = Rattle.p9_cmean.specs.Cells.Cell} i (Byte 0)) s.1 ∙ ap (number_cells 4) (sym z); word = omega (arith, z) }
+      (subst (λ y. (e.symbol.is_local || not (list_any (is_shared_data y) (entries modules) || list_any (is_shared_common y) m.0)) ≡ true) (sym n) m.1) in
+      record { alive = refl; cells = ap (λ i. replicate {A = Cell} i (Byte 0)) s.1 ∙ ap (number_cells 4) (sym z); word = omega (arith, z) }
 
   abbrev IsDefined : List ℕ → Type 0
   IsDefined x = (list_any (is_given x) vs || list_any (same_name x) tentative) ≡ true
@@ -271,10 +269,11 @@ module _ (modules : List Source) (vs : List Initial) (tentative texts : List (Li
   pub first_holder : (x : List ℕ) → IsDefined x → (object : Object) × (slice_get (first_objects modules) (number_of modules x) ≡ Some object) × Holds object (initial_of vs x)
   first_holder x h =
       let f = found_at (is_shared_of x) (object_makers modules) (variable_object x h) in
-      let i = each_at IsMade (object_makers modules) f.place f.item all_made f.there in
-      (object_of f.item,
-      subst (λ n. slice_get (first_objects modules) n ≡ Some (object_of f.item)) (place_is (is_shared_of x) (object_makers modules) (number_of modules x) f) (object_at modules f.place f.item f.there),
-      holds_first x f.item f.item.symbol.kind f.passed i.0 i.1)
+      let i = each_at IsMade (object_makers modules) f.place f.item all_made f.there in (
+        object_of f.item,
+        subst (λ n. slice_get (first_objects modules) n ≡ Some (object_of f.item)) (place_is (is_shared_of x) (object_makers modules) (number_of modules x) f) (object_at modules f.place f.item f.there),
+        holds_first x f.item f.item.symbol.kind f.passed i.0 i.1,
+      )
 
   pub has_no_local : (owner : ℕ) (x : List ℕ) → dotless x ≡ true → has_local modules owner x ≡ false
   has_no_local owner x d = none_passes (is_local_of owner x) (entries modules) (each_weaker (λ e. Sound (IsFirst vs) texts e.symbol) (λ e. is_local_of owner x e ≡ false) (λ e s. not_local (IsFirst vs) texts owner x e d s) (entries modules) sound)
@@ -285,7 +284,7 @@ module _ (modules : List Source) (vs : List Initial) (tentative texts : List (Li
       ∙ ap start_of (number_is (is_shared_of x) (object_makers modules) (variable_object x h))
 
   pub function_is : (owner : ℕ) (x : List ℕ) → dotless x ≡ true → function_named modules owner x ≡ Global x
-  function_is owner x d = ap (λ b. if b then Rattle.p9_cmean.specs.Cells.Local owner x else Global x) (has_no_local owner x d)
+  function_is owner x d = ap (λ b. if b then Local owner x else Global x) (has_no_local owner x d)
 
   same_item : {X : Type 0} (p q : X → Bool) (xs : List X) (m n : ℕ) → (f : FoundAt 0 p xs m) (g : FoundAt 0 q xs n) → m ≡ n → f.item ≡ g.item
   same_item p q xs m n f g e =

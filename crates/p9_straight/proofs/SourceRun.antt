@@ -3,22 +3,21 @@ use Rattle.std.proofs.Common.{◌≡◌, ◌≢◌, ◌<◌, ◌≤◌, ℕ, zer
 use Rattle.std.proofs.lemmas.Bool.Decides.{nat_tests}
 use Rattle.std.specs.Prelude.{slice_get, slice_set, codes}
 use Rattle.p9_base.specs.Words.{word_sum, is_negative}
-use Rattle.p9_lang.specs.Types.{TypeTree, Void, Int, Long, Char, Array, Function, Outer}
-use Rattle.p9_lang.specs.Trees.{node, none, more, Syntax, nodes_of, nodes_of_row}
-use Rattle.p9_lang.specs.declared.tree.Kind.TheVariants as kind
+use Rattle.p9_lang.specs.Types.{TypeTree, Int, Long, Char, Array, Outer, Static}
+use Rattle.p9_lang.specs.Trees.{node, Syntax, nodes_of, nodes_of_row}
 use Rattle.p9_lang.specs.Form.{same_name}
-use Rattle.p9_lang.specs.Typing.{Judged, Has, Scope, named, texts_in, judged, typeless, exits_type, transfer_type}
-use Rattle.p9_lang.specs.Modules.{Source, Label, Typed, TypedRow, judged_type, judged_meaning}
+use Rattle.p9_lang.specs.Typing.{Has, Scope, named, texts_in, judged, typeless, exits_type, transfer_type}
+use Rattle.p9_lang.specs.Modules.{Source, Label, TypedRow, judged_type, judged_meaning}
 use Rattle.p9_lang.proofs.Labels.{judged_label, typed_expression, typed_statement, typed_statements}
 use Rattle.p9_form.specs.declared.file.Operand.{Operand}
 use Rattle.p9_form.specs.declared.file.Operand.TheVariants.{Variable, Number}
 use Rattle.p9_form.specs.declared.file.Statement.{Statement}
 use Rattle.p9_form.specs.declared.file.Statement.TheVariants.{Assign, Write, Exits}
-use Rattle.p9_form.specs.Items.{leaf, number_leaf, text_leaf, operand_tree, sum_tree, exit_tree, effect_tree, statement_tree, statement_trees, statement_size}
+use Rattle.p9_form.specs.Items.{number_leaf, text_leaf, operand_tree, sum_tree, effect_tree, statement_tree, statement_trees, statement_size}
 use Rattle.p9_cmean.specs.declared.Place.{Place}
-use Rattle.p9_cmean.specs.Cells.{Global, Into, Null, Object, Value, Word, Address, State}
-use Rattle.p9_cmean.specs.Plays.{Call, Done, Ask, bind, Normal, then_go}
-use Rattle.p9_cmean.specs.Turns.{Outcome, Ended, Out, Undefined, Deep, Gave, Over, End, and_then, resolve, calls_to}
+use Rattle.p9_cmean.specs.Cells.{Global, Into, Null, Object, Value, Word, Address, State, ToFunction}
+use Rattle.p9_cmean.specs.Plays.{Call, Done, bind, Normal, then_go, Flow, Play}
+use Rattle.p9_cmean.specs.Turns.{Outcome, Deep, Gave, Over, End, and_then, resolve, calls_to}
 use Rattle.p9_cmean.specs.Access.{number_cells}
 use Rattle.p9_cmean.specs.SystemCalls.{system_body, written}
 use Rattle.p9_cmean.specs.Expressions.{Surroundings, at, pointer_of, outer_pointer, value}
@@ -28,7 +27,7 @@ use Rattle.p9_cmean.proofs.Variables.{Holds, IsVariableType}
 use Rattle.p9_cmean.proofs.FormPlays.{StandsFor, Calls, IsTextAt, variable_value, sum_value as sum_plays, assign_play, write_play, exits_play, exits_zero_play, asks}
 use Rattle.p9_cmean.proofs.FormCalls.{text_object, written_text, written_past, exits_text, write_ends, exits_ends}
 use Rattle.p9_straight.proofs.FormRun.{Values, Came, Ends, RunsOut, Fails, operand_value, sum_value, assigned, after_write, statements_run, ComesTo}
-use Rattle.p9_straight.proofs.SourceLists.{bool_cases, same_is, same_self, not_same, get_set_same, get_set_other}
+use Rattle.p9_straight.proofs.SourceLists.{bool_cases, same_is, same_self, get_set_same, get_set_other}
 
 -- What names and texts stand for. `K` holds of the variables that are named.
 
@@ -200,7 +199,7 @@ module _ (modules : List Source) (around : Surroundings) (scope : Scope) (K : Li
         (λ e. let same : y ≡ x = same_is y x e in (
           record { cells = number_cells 4 m; alive = true },
           ap (λ z. slice_get (slice_set objects (number x) (record { cells = number_cells 4 m; alive = true })) (number z)) same
-          ∙ get_set_same objects (number x) (h.holder x f).0 (record { cells = number_cells 4 m; alive = true }) (h.holder x f).1,
+              ∙ get_set_same objects (number x) (h.holder x f).0 (record { cells = number_cells 4 m; alive = true }) (h.holder x f).1,
           subst (λ n. Holds (record { cells = number_cells 4 m; alive = true }) n) (sym (ap (λ b. if b then m else values y) e)) (record { alive = refl; cells = refl; word = w }),
         ))
         (λ e. (
@@ -219,9 +218,6 @@ module _ (modules : List Source) (around : Surroundings) (scope : Scope) (K : Li
   abbrev whole : (k first : ℕ) → Syntax → Label
   whole k first e = judged_label (first + (nodes_of e + 0)) typeless
 
-  abbrev after_write_state : State → List ℕ → State
-  after_write_state s bytes = record s { output = s.output ++ bytes }
-
   assign_is : (turns : ℕ) (values : Values) (k first a : ℕ) (x : List ℕ) (left : Operand) (right : Option Operand) (s : State)
       → Shows K texts number static values s.objects → Fine K (Assign x left right)
       → statement turns around (typed_statement scope k first (statement_tree a (Assign x left right))) s
@@ -237,17 +233,17 @@ module _ (modules : List Source) (around : Surroundings) (scope : Scope) (K : Li
   write_label : (n : ℕ) → Calls around (judged_label n (named scope (codes "write"))) transfer_type (codes "write")
   write_label n = record {
     type = ap judged_type set.write;
-    pointer = ap (λ j. pointer_of around transfer_type (judged_meaning j)) set.write ∙ ap Rattle.p9_cmean.specs.Cells.ToFunction set.write_function;
+    pointer = ap (λ j. pointer_of around transfer_type (judged_meaning j)) set.write ∙ ap ToFunction set.write_function;
   }
 
   exits_label : (n : ℕ) → Calls around (judged_label n (named scope (codes "exits"))) exits_type (codes "exits")
   exits_label n = record {
     type = ap judged_type set.exits;
-    pointer = ap (λ j. pointer_of around exits_type (judged_meaning j)) set.exits ∙ ap Rattle.p9_cmean.specs.Cells.ToFunction set.exits_function;
+    pointer = ap (λ j. pointer_of around exits_type (judged_meaning j)) set.exits ∙ ap ToFunction set.exits_function;
   }
 
   text_label : (n k m : ℕ) (text : List ℕ) → m ≡ k → slice_get texts k ≡ Some text
-      → IsTextAt around (judged_label n (Has (Array Char (0 + length text + 1)) (Rattle.p9_lang.specs.Types.Static m))) (0 + length text + 1) (static k)
+      → IsTextAt around (judged_label n (Has (Array Char (0 + length text + 1)) (Static m))) (0 + length text + 1) (static k)
   text_label n k m text e h = record { type = refl; pointer = ap around.static e ∙ set.text k text h }
 
   write_is : (turns : ℕ) (values : Values) (k first a : ℕ) (text : List ℕ) (count : Operand) (s : State)
@@ -346,7 +342,7 @@ module _ (modules : List Source) (around : Surroundings) (scope : Scope) (K : Li
       (λ e. subst (λ r. ComesTo (goes_on_with (suc d) active turns call rows r) (Ends s.output [])) (sym (deep_exits modules d active n c (Address Null ∷ []) place s e)) tt)
       (λ le. subst (λ r. ComesTo (goes_on_with (suc d) active turns call rows r) (Ends s.output [])) (sym (exits_ends modules d active n c Null place s le)) (refl, refl))
 
-  abbrev first_then : (d active n c turns : ℕ) (call : Place) → TypedRow → Rattle.p9_cmean.specs.Plays.Play Rattle.p9_cmean.specs.Plays.Flow → Outcome
+  abbrev first_then : (d active n c turns : ℕ) (call : Place) → TypedRow → Play Flow → Outcome
   first_then d active n c turns call rows p =
       outcome_of (resolve (calls_to d (functions_of modules)) active n c (bind (bind p (λ flow u. then_go flow u (statements turns around rows))) (λ flow t. Done (given call flow) t)))
 

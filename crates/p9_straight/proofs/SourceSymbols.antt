@@ -1,21 +1,18 @@
 -- The symbols of a file's module.
-use Rattle.std.proofs.Common.{◌≡◌, ◌≢◌, ◌<◌, ◌≤◌, ℕ, zero, suc, ◌+◌, ◌*◌, Bool, true, false, not, ◌&&◌, ◌||◌, if◌then◌else◌, List, [], ◌∷◌, ◌++◌, length, map, Some, None, Option, refl, sym, ap, ◌∙◌, subst, arith, append-nil, append_assoc}
-use Rattle.std.specs.Prelude.{◌==◌, codes, filter, flat_map, slice_get, decimal}
-use Rattle.std.specs.List.{list_any}
+use Rattle.std.proofs.Common.{◌≡◌, ℕ, Bool, true, false, if◌then◌else◌, List, [], ◌∷◌, ◌++◌, map, Some, None, Option, refl, sym, ap, ◌∙◌, subst, append_assoc}
+use Rattle.std.specs.Prelude.{codes, filter}
 use Rattle.p9_lang.specs.declared.tree.Kind.TheVariants as kind
-use Rattle.p9_lang.specs.Types.{TypeTree, Int, Long}
-use Rattle.p9_lang.specs.Layout.{size_of}
+use Rattle.p9_lang.specs.Types.{TypeTree}
 use Rattle.p9_lang.specs.Trees.{node, none}
-use Rattle.p9_lang.specs.Form.{same_name, is_among, is_letter, is_name, is_variable_name}
-use Rattle.p9_lang.specs.Modules.{Label, Typed, Source, Declaration as Declared, Way, Only, Tentative, Body, declarations as declared_by, declarations_of, uses_in_row, TextObject, texts_of_row, SymbolKind, DeclaredOnly, Used, Code, Data, TextData, Common, Symbol, kind_of, system_names, system_type, first_type, symbol_of, new_names, declared_names, symbol_names, text_symbol, symbols}
-use Rattle.p9_lang.specs.Modules as modules
+use Rattle.p9_lang.specs.Form.{same_name, is_among, is_variable_name}
+use Rattle.p9_lang.specs.Modules.{Label, Typed, Source, Declaration as Declared, Way, declarations as declared_by, declarations_of, uses_in_row, texts_of_row, SymbolKind, DeclaredOnly, Used, Code, Data, Common, Symbol, kind_of, system_names, system_type, first_type, symbol_of, new_names, declared_names, text_symbol, symbols}
 use Rattle.p9_form.specs.declared.file.Statement.{Statement}
 use Rattle.p9_form.specs.declared.file.First.{First}
 use Rattle.p9_form.specs.declared.file.First.TheVariants as first
 use Rattle.p9_form.specs.declared.file.Declaration.{Declaration}
 use Rattle.p9_form.specs.declared.file.File.{File}
 use Rattle.p9_cmean.proofs.Variables.{IsVariableType}
-use Rattle.p9_straight.proofs.SourceLists.{Each, each_append, each_weaker, each_both, each_map, bool_cases, neither, neither_left, neither_right, same_is, same_self, true_not}
+use Rattle.p9_straight.proofs.SourceLists.{Each, each_weaker, each_both, each_map, bool_cases, neither, neither_left, neither_right, same_is, same_self, true_not}
 use Rattle.p9_straight.proofs.SourceForm.{AreNew, names_behind, FileForm}
 use Rattle.p9_straight.proofs.SourceTyped.{Thing, AVariable, AMain, main_thing, things, MainItem, IsWay, Stands, Stand, numbered, main_texts, IsSourceOf, other_name, no_main}
 
@@ -65,10 +62,11 @@ Before names ts = (known : List (List ℕ)) → Covers names known → is_among 
 fresh_variables : (names known : List (List ℕ)) (ds : List Declaration) (ts : List Thing) → Covers names known → is_among known (codes "main") ≡ false → AreNew names ds
     → Before (names_behind names ds) ts → AreFresh known (map AVariable ds ++ ts)
 fresh_variables names known [] ts c m w h = h known c m
-fresh_variables names known (d ∷ ds) ts c m w h =
-    (c d.name w.0 w.1,
-    fresh_variables (d.name ∷ names) (d.name ∷ known) ds ts (covers_more names known d.name c)
-    (neither (same_name (codes "main") d.name) (is_among known (codes "main")) (other_name (codes "main") d.name no_main w.0) m) w.3 h)
+fresh_variables names known (d ∷ ds) ts c m w h = (
+  c d.name w.0 w.1,
+  fresh_variables (d.name ∷ names) (d.name ∷ known) ds ts (covers_more names known d.name c)
+      (neither (same_name (codes "main") d.name) (is_among known (codes "main")) (other_name (codes "main") d.name no_main w.0) m) w.3 h,
+)
 
 fresh_after : (names known : List (List ℕ)) (ds : List Declaration) → Covers names known → AreNew names ds → AreFresh known (map AVariable ds)
 fresh_after names known [] c w = tt
@@ -98,9 +96,10 @@ apart_of known [] [] h f = tt
 apart_of known [] (d ∷ ds) h f = absurd h
 apart_of known (t ∷ ts) [] h f = absurd h
 apart_of known (t ∷ ts) (d ∷ ds) h f =
-    let e = stand_name t d h.0 in
-    (subst (λ x. is_among known x ≡ false) (sym e) f.0,
-    apart_of (d.name ∷ known) ts ds h.1 (subst (λ x. AreFresh (x ∷ known) ts) (sym e) f.1))
+    let e = stand_name t d h.0 in (
+      subst (λ x. is_among known x ≡ false) (sym e) f.0,
+      apart_of (d.name ∷ known) ts ds h.1 (subst (λ x. AreFresh (x ∷ known) ts) (sym e) f.1),
+    )
 
 new_is : (known : List (List ℕ)) (ds : List Declared) → AreApart known ds → new_names known (map (λ d. d.name) ds) ≡ map (λ d. d.name) ds
 new_is known [] h = refl
@@ -128,9 +127,9 @@ all_alone known [] h = tt
 all_alone known (d ∷ ds) h =
     let u = unknown (d.name ∷ known) ds h.1 in (
       ap (λ b. if b then d ∷ declarations_of d.name ds else declarations_of d.name ds) (same_self d.name)
-      ∙ ap (λ l. d ∷ l) (filter_none d.name ds (each_weaker (λ e. is_among (d.name ∷ known) e.name ≡ false) (λ e. same_name d.name e.name ≡ false) (λ e g. same_turned e.name d.name (neither_left (same_name e.name d.name) (is_among known e.name) g)) ds u)),
+          ∙ ap (λ l. d ∷ l) (filter_none d.name ds (each_weaker (λ e. is_among (d.name ∷ known) e.name ≡ false) (λ e. same_name d.name e.name ≡ false) (λ e g. same_turned e.name d.name (neither_left (same_name e.name d.name) (is_among known e.name) g)) ds u)),
       each_weaker (λ e. (is_among (d.name ∷ known) e.name ≡ false) × IsAlone ds e) (IsAlone (d ∷ ds)) (λ e g. alone_behind d ds e (neither_left (same_name e.name d.name) (is_among known e.name) g.0) g.1) ds
-      (each_both (λ e. is_among (d.name ∷ known) e.name ≡ false) (IsAlone ds) ds u (all_alone (d.name ∷ known) ds h.1)),
+          (each_both (λ e. is_among (d.name ∷ known) e.name ≡ false) (IsAlone ds) ds u (all_alone (d.name ∷ known) ds h.1)),
     )
 
 -- Symbols
@@ -179,10 +178,12 @@ makes_one source (AVariable v) d st h a = (
 makes_one source (AMain ss) d st h a = (
   h.0,
   ap (λ l. is_among l d.name) st,
-  (h.1.0,
-  ap (λ l. kind_of l (is_among (uses_in_row source.items) d.name)) a
-  ∙ ap (λ w. kind_of (declared d.name d.type w ∷ []) (is_among (uses_in_row source.items) d.name)) h.1.1,
-  h.1.2),
+  (
+    h.1.0,
+    ap (λ l. kind_of l (is_among (uses_in_row source.items) d.name)) a
+        ∙ ap (λ w. kind_of (declared d.name d.type w ∷ []) (is_among (uses_in_row source.items) d.name)) h.1.1,
+    h.1.2,
+  ),
 )
 
 make_all : (source : Source) (ts : List Thing) (ds : List Declared) → source.statics ≡ [] → Stand ts ds → Each (IsAlone (declared_by source.items)) ds
@@ -215,13 +216,18 @@ undeclared : (y : List ℕ) (ds : List Declared) → Each (λ d. same_name d.nam
 undeclared y ds h = filter_none y ds (each_weaker (λ d. same_name d.name y ≡ false) (λ d. same_name y d.name ≡ false) (λ d g. same_turned d.name y g) ds h)
 
 system_undeclared : (ds : List Declared) → Each (λ d. is_among system_names d.name ≡ false) ds → Each (λ y. declarations_of y ds ≡ []) system_names
-system_undeclared ds h =
-    (undeclared (codes "exits") ds (each_weaker (λ d. is_among system_names d.name ≡ false) (λ d. same_name d.name (codes "exits") ≡ false) (λ d g. neither_left (same_name d.name (codes "exits")) _ g) ds h),
-    (undeclared (codes "read") ds (each_weaker (λ d. is_among system_names d.name ≡ false) (λ d. same_name d.name (codes "read") ≡ false)
-    (λ d g. neither_left (same_name d.name (codes "read")) _ (neither_right (same_name d.name (codes "exits")) _ g)) ds h),
-    (undeclared (codes "write") ds (each_weaker (λ d. is_among system_names d.name ≡ false) (λ d. same_name d.name (codes "write") ≡ false)
-    (λ d g. neither_left (same_name d.name (codes "write")) _ (neither_right (same_name d.name (codes "read")) _ (neither_right (same_name d.name (codes "exits")) _ g))) ds h),
-    tt)))
+system_undeclared ds h = (
+  undeclared (codes "exits") ds (each_weaker (λ d. is_among system_names d.name ≡ false) (λ d. same_name d.name (codes "exits") ≡ false) (λ d g. neither_left (same_name d.name (codes "exits")) _ g) ds h),
+  (
+    undeclared (codes "read") ds (each_weaker (λ d. is_among system_names d.name ≡ false) (λ d. same_name d.name (codes "read") ≡ false)
+        (λ d g. neither_left (same_name d.name (codes "read")) _ (neither_right (same_name d.name (codes "exits")) _ g)) ds h),
+    (
+      undeclared (codes "write") ds (each_weaker (λ d. is_among system_names d.name ≡ false) (λ d. same_name d.name (codes "write") ≡ false)
+          (λ d g. neither_left (same_name d.name (codes "write")) _ (neither_right (same_name d.name (codes "read")) _ (neither_right (same_name d.name (codes "exits")) _ g))) ds h),
+      tt,
+    ),
+  ),
+)
 
 map_append : {X Y : Type 0} (f : X → Y) (xs ys : List X) → map f (xs ++ ys) ≡ map f xs ++ map f ys
 map_append f [] ys = refl

@@ -1,11 +1,11 @@
 -- What the items of a file's module declare, and the texts in them.
-use Rattle.std.proofs.Common.{◌≡◌, ◌≢◌, ◌<◌, ◌≤◌, ℕ, zero, suc, ◌+◌, Bool, true, false, not, ◌&&◌, ◌||◌, if◌then◌else◌, List, [], ◌∷◌, ◌++◌, length, map, Some, None, Option, refl, sym, ap, ◌∙◌, subst, arith, append-nil, append_assoc}
-use Rattle.std.specs.Prelude.{◌==◌, codes, flat_map}
+use Rattle.std.proofs.Common.{◌≡◌, ℕ, ◌+◌, Bool, true, false, ◌||◌, if◌then◌else◌, List, [], ◌∷◌, ◌++◌, map, Some, None, Option, refl, sym, ap, ◌∙◌, subst, arith, append-nil}
+use Rattle.std.specs.Prelude.{codes, flat_map}
 use Rattle.p9_lang.specs.declared.tree.Spec.{Spec}
 use Rattle.p9_lang.specs.declared.tree.Kind.TheVariants as kind
 use Rattle.p9_lang.specs.Types.{TypeTree, Void, Int, Long, Function, Outer}
 use Rattle.p9_lang.specs.Types as types
-use Rattle.p9_lang.specs.Trees.{node, none, more, Syntax, SyntaxRow, nodes_of}
+use Rattle.p9_lang.specs.Trees.{node, none, more, SyntaxRow, nodes_of}
 use Rattle.p9_lang.specs.Form.{same_name, is_among, is_variable_name, IsFile}
 use Rattle.p9_lang.specs.Typing.{Has, Scope, outer, named, texts_in, exits_type, transfer_type, system_scope, scope_after}
 use Rattle.p9_lang.specs.Modules.{Label, Typed, TypedRow, Source, Declaration as Declared, Way, Only, Tentative, Initial, Body, declarations as declared_by, declarations_in, TextObject, texts_of, texts_of_row}
@@ -18,9 +18,9 @@ use Rattle.p9_form.specs.declared.file.First.{First}
 use Rattle.p9_form.specs.declared.file.First.TheVariants as first
 use Rattle.p9_form.specs.declared.file.Declaration.{Declaration}
 use Rattle.p9_form.specs.declared.file.File.{File}
-use Rattle.p9_form.specs.Items.{operand_tree, sum_tree, statement_tree, statement_trees, statement_size, number_word, declaration_tree, declaration_trees, declaration_size, declarations_size, main_tree, main_trees, main_size, items_of, source_of}
+use Rattle.p9_form.specs.Items.{operand_tree, sum_tree, statement_tree, statement_trees, statement_size, declaration_tree, declaration_trees, declaration_size, declarations_size, main_tree, main_trees, main_size, items_of, source_of}
 use Rattle.p9_cmean.proofs.Variables.{IsVariableType}
-use Rattle.p9_straight.proofs.SourceLists.{Each, bool_cases, or_cases, same_is, same_self, true_not}
+use Rattle.p9_straight.proofs.SourceLists.{Each, bool_cases, or_cases, same_is, true_not}
 use Rattle.p9_straight.proofs.SourceRun.{AreFine, text_count, statement_texts}
 use Rattle.p9_straight.proofs.SourceForm.{AreNew, names_behind, Among, MainIsFine, FileForm}
 
@@ -308,9 +308,10 @@ stand_at_main : (names : List (List ℕ)) (scope : Scope) (n a : ℕ) (main : Op
     → GoodScope names scope → AreVariableNames names → AreNew names after → MainIsFine names main
     → Stand (main_thing main (map AVariable after)) (declared_by (typed_items scope 0 n (main_trees a main after)))
 stand_at_main names scope n a None after g v w f = variables_after names scope 0 n a after g v w
-stand_at_main names scope n a (Some ss) after g v w f =
-    ((refl, (typed_item scope 0 n (main_tree a ss), refl, main_item names scope n a ss g v f)),
-    variables_after names (outer (codes "main") void_main ∷ scope) (0 + texts_in (main_tree a ss)) (n + nodes_of (main_tree a ss)) (a + main_size ss) after (main_good names scope void_main v g) v w)
+stand_at_main names scope n a (Some ss) after g v w f = (
+  (refl, (typed_item scope 0 n (main_tree a ss), refl, main_item names scope n a ss g v f)),
+  variables_after names (outer (codes "main") void_main ∷ scope) (0 + texts_in (main_tree a ss)) (n + nodes_of (main_tree a ss)) (a + main_size ss) after (main_good names scope void_main v g) v w,
+)
 
 -- What a file's module declares, and its texts
 

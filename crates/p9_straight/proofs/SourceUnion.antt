@@ -1,9 +1,9 @@
 -- The symbols of all files together: what each makes, which there are, and where `main` is found.
-use Rattle.std.proofs.Common.{◌≡◌, ◌≢◌, ◌<◌, ◌≤◌, ℕ, zero, suc, ◌+◌, Bool, true, false, not, ◌&&◌, ◌||◌, if◌then◌else◌, List, [], ◌∷◌, ◌++◌, length, map, Some, None, Option, refl, sym, ap, ◌∙◌, subst, arith}
-use Rattle.std.specs.Prelude.{◌==◌, codes, flat_map, slice_get, slice_index_or, AllPairs}
+use Rattle.std.proofs.Common.{◌≡◌, ◌≢◌, ◌<◌, ◌≤◌, ℕ, suc, Bool, true, false, if◌then◌else◌, List, [], ◌∷◌, ◌++◌, length, map, Some, None, Option, refl, sym, ap, ◌∙◌, subst, arith}
+use Rattle.std.specs.Prelude.{flat_map, slice_get, slice_index_or, AllPairs}
 use Rattle.std.specs.List.{list_any}
 use Rattle.p9_lang.specs.Form.{same_name, IsFile}
-use Rattle.p9_lang.specs.Modules.{Typed, Source, symbols}
+use Rattle.p9_lang.specs.Modules.{Typed, symbols}
 use Rattle.p9_form.specs.declared.file.Statement.{Statement}
 use Rattle.p9_form.specs.declared.file.First.{First}
 use Rattle.p9_form.specs.declared.file.First.TheVariants as first
@@ -11,10 +11,10 @@ use Rattle.p9_form.specs.declared.file.Declaration.{Declaration}
 use Rattle.p9_form.specs.declared.file.File.{File}
 use Rattle.p9_form.specs.Items.{items_of, source_of}
 use Rattle.p9_form.specs.Sharing.{declarations, Initial, initial_in, initials, tentative_in, tentatives, main_in, mains}
-use Rattle.p9_cmean.specs.Union.{Entry, entries_from, is_shared_data, is_shared_common, is_text_of, Defined, first_code}
+use Rattle.p9_cmean.specs.Union.{Entry, entries_from, is_shared_data, is_shared_common, is_text_of, first_code}
 use Rattle.p9_straight.proofs.FormRun.{initial_of}
-use Rattle.p9_straight.proofs.SourceLists.{Each, each_append, each_left, each_right, each_weaker, any_left, any_right, any_either, same_self, not_same, flat_append}
-use Rattle.p9_straight.proofs.SourceForm.{IsBounded, AreNew, names_behind, FileForm, file_form}
+use Rattle.p9_straight.proofs.SourceLists.{Each, each_append, each_left, each_right, any_left, any_right, any_either, same_self, not_same, flat_append, neither_left, neither_right}
+use Rattle.p9_straight.proofs.SourceForm.{IsBounded, AreNew, names_behind, file_form}
 use Rattle.p9_straight.proofs.SourceTyped.{MainItem, text_list, source_is}
 use Rattle.p9_straight.proofs.SourceSymbols.{HasSymbols, has_symbols}
 use Rattle.p9_straight.proofs.SourceEntries.{entry, Sound, named, mains_of, mains_are, file_sound, file_data, file_common, file_text, is_main, file_code, file_no_code}
@@ -130,24 +130,27 @@ each_by_places P (x ∷ xs) h = (h 0 x (omega arith), each_by_places P xs (λ k 
 
 distinct : (vs : List Initial) → AllPairs (λ v w. v.name ≢ w.name) vs → AreDistinct vs
 distinct [] h = tt
-distinct (v ∷ vs) h =
-    (each_by_places (λ w. v.name ≢ w.name) vs (λ k d l. h 0 (suc k) d (omega arith) (omega (arith, l))),
-    distinct vs (λ i j d l m. h (suc i) (suc j) d (omega (arith, l)) (omega (arith, m))))
+distinct (v ∷ vs) h = (
+  each_by_places (λ w. v.name ≢ w.name) vs (λ k d l. h 0 (suc k) d (omega arith) (omega (arith, l))),
+  distinct vs (λ i j d l m. h (suc i) (suc j) d (omega (arith, l)) (omega (arith, m))),
+)
 
 abbrev HasValue : List Initial → Initial → Type 0
 HasValue vs v = initial_of vs v.name ≡ v.value
 
 values_of : (vs : List Initial) → AreDistinct vs → Each (HasValue vs) vs
 values_of [] h = tt
-values_of (v ∷ vs) h =
-    (ap (λ b. if b then v.value else initial_of vs v.name) (same_self v.name),
-    both vs h.0 (values_of vs h.1))
+values_of (v ∷ vs) h = (
+  ap (λ b. if b then v.value else initial_of vs v.name) (same_self v.name),
+  both vs h.0 (values_of vs h.1),
+)
   where
     both : (ws : List Initial) → Each (λ w. v.name ≢ w.name) ws → Each (HasValue vs) ws → Each (HasValue (v ∷ vs)) ws
     both [] a b = tt
-    both (w ∷ ws) a b =
-        (ap (λ c. if c then v.value else initial_of vs w.name) (not_same w.name v.name (λ e. a.0 (sym e))) ∙ b.0,
-        both ws a.1 b.1)
+    both (w ∷ ws) a b = (
+      ap (λ c. if c then v.value else initial_of vs w.name) (not_same w.name v.name (λ e. a.0 (sym e))) ∙ b.0,
+      both ws a.1 b.1,
+    )
 
 pub first_values : (vs : List Initial) → AllPairs (λ v w. v.name ≢ w.name) vs → Each (HasValue vs) vs
 first_values vs h = values_of vs (distinct vs h)
@@ -156,5 +159,5 @@ first_values vs h = values_of vs (distinct vs h)
 pub no_value : (vs : List Initial) (x : List ℕ) → list_any (named x) vs ≡ false → initial_of vs x ≡ 0
 no_value [] x h = refl
 no_value (v ∷ vs) x h =
-    ap (λ b. if b then v.value else initial_of vs x) (Rattle.p9_straight.proofs.SourceLists.neither_left (same_name x v.name) (list_any (named x) vs) h)
-    ∙ no_value vs x (Rattle.p9_straight.proofs.SourceLists.neither_right (same_name x v.name) (list_any (named x) vs) h)
+    ap (λ b. if b then v.value else initial_of vs x) (neither_left (same_name x v.name) (list_any (named x) vs) h)
+    ∙ no_value vs x (neither_right (same_name x v.name) (list_any (named x) vs) h)
