@@ -14,3 +14,12 @@ pub mod MachineStatements
 pub mod MachineText
 pub mod MachineStart
 pub mod MachineRun
+pub mod SourceLists
+pub mod SourceRun
+pub mod SourceForm
+pub mod SourceTyped
+pub mod SourceSymbols
+pub mod SourceEntries
+pub mod SourceUnion
+pub mod SourceObjects
+pub mod SourceMeaning
