@@ -14,3 +14,5 @@ pub mod MachineStatements
 pub mod MachineText
 pub mod MachineStart
 pub mod MachineRun
+pub mod Fitting
+pub mod Composed
