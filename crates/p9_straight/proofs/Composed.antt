@@ -1,7 +1,6 @@
 -- The executable of joined files keeps their meaning, and ends in time.
-use Rattle.std.proofs.Common.{◌≡◌, ◌<◌, ◌≤◌, ℕ, zero, suc, ◌+◌, ◌-◌, ◌*◌, ◌^◌, Bool, true, false, if◌then◌else◌, nat_le, List, [], ◌∷◌, ◌++◌, length, take, map, flat_map, Contains, All, Option, Some, None, unwrap_or, IsSomeAnd, Ok, option_map, refl, sym, ap, ◌∙◌, subst, arith}
+use Rattle.std.proofs.Common.{◌≡◌, ◌≤◌, ℕ, zero, suc, ◌+◌, ◌-◌, Bool, true, false, if◌then◌else◌, nat_le, List, [], ◌∷◌, ◌++◌, length, take, map, flat_map, Contains, All, Some, IsSomeAnd, Ok, option_map, sym, ap, ◌∙◌, subst, arith}
 use Rattle.p9_aout.specs.Image.{ImageParts, image_of}
-use Rattle.p9_lang.specs.Modules.{Source}
 use Rattle.p9_lang.specs.Form.{IsFile}
 use Rattle.p9_base.specs.Words.{is_negative}
 use Rattle.p9_cmean.specs.Turns.{Outcome, Ended, Out, Undefined, Deep}
@@ -12,7 +11,6 @@ use Rattle.p9_r3k.specs.Machine.{State, run, exit_text}
 use Rattle.p9_r3k.specs.Laws.{HasEnded}
 use Rattle.p9_r3k.proofs.Runs.{run-ended, run-sum}
 use Rattle.p9_vi.specs.Run.{vrun, started, start_of, IsExited, HasExited, IsRunning}
-use Rattle.p9_form.specs.declared.file.Operand.{Operand}
 use Rattle.p9_form.specs.declared.file.Statement.{Statement}
 use Rattle.p9_form.specs.declared.file.Statement.TheVariants.{Assign, Write, Exits}
 use Rattle.p9_form.specs.declared.file.File.{File}
@@ -20,12 +18,12 @@ use Rattle.p9_form.specs.Items.{items_of, source_of}
 use Rattle.p9_form.specs.Sharing.{names_in, initials, defined_names, AreJoined, IsSmall}
 use Rattle.p9_straight.specs.Layout.{init_bytes, bss_size, texts_at, end_at}
 use Rattle.p9_straight.specs.Code.{main_code, data_start, place_in, main_of, code_of, parts_for}
-use Rattle.p9_straight.specs.Headline.{KeepsMeaning, IsDefined, AreDefined, budget, EndsInTime}
+use Rattle.p9_straight.specs.Headline.{KeepsMeaning, IsDefined, budget, EndsInTime}
 use Rattle.p9_straight.proofs.FormRun.{Values, Came, Ends, RunsOut, Fails, operand_value, after_write, statements_run, initial_of, form_run, ComesTo}
 use Rattle.p9_straight.proofs.Placed.{AreVariables, AreTexts}
 use Rattle.p9_straight.proofs.LaidOut.{variables_laid}
 use Rattle.p9_straight.proofs.TextsLaid.{texts_laid}
-use Rattle.p9_straight.proofs.MachineRun.{Runs, AreFit, begin_of, machine_runs, main_run_is}
+use Rattle.p9_straight.proofs.MachineRun.{Runs, begin_of, machine_runs, main_run_is}
 use Rattle.p9_straight.proofs.Fitting.{files_words, initial_word, main_is, main_fits, main_few, main_size, begins_behind, data_small}
 
 -- What is asked of files
@@ -162,12 +160,14 @@ in_time : (bytes input : List ℕ) (parts : ImageParts) (turns limit : ℕ) (out
     → (output text : List ℕ) × HasExited bytes input budget output text
 in_time bytes input parts turns limit (Ended output text) (Ends o t) e within defined over same runs =
     let later : run budget (start_of parts input) ≡ run runs.0 (start_of parts input) =
-    run_later (start_of parts input) runs.0 budget (omega (arith, within, runs.1)) runs.2 in
-    (o, t,
-    exited_is bytes input parts budget o t e
-    (subst (λ (s : State). IsExited s.core.ending) (sym later) runs.2)
-    (ap (λ (s : State). exit_text s.core) later ∙ runs.3)
-    (ap (λ (s : State). s.out) later ∙ runs.4))
+    run_later (start_of parts input) runs.0 budget (omega (arith, within, runs.1)) runs.2 in (
+      o,
+      t,
+      exited_is bytes input parts budget o t e
+          (subst (λ (s : State). IsExited s.core.ending) (sym later) runs.2)
+          (ap (λ (s : State). exit_text s.core) later ∙ runs.3)
+          (ap (λ (s : State). s.out) later ∙ runs.4),
+    )
 in_time bytes input parts turns limit (Ended output text) (RunsOut o) e within defined over same runs = absurd over
 in_time bytes input parts turns limit (Ended output text) Fails e within defined over same runs = absurd same
 in_time bytes input parts turns limit (Out output) (Ends o t) e within defined over same runs = absurd same
