@@ -23,3 +23,5 @@ pub mod SourceEntries
 pub mod SourceUnion
 pub mod SourceObjects
 pub mod SourceMeaning
+pub mod Fitting
+pub mod Composed
