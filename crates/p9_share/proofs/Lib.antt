@@ -1,2 +1,4 @@
 pub mod Names
 pub mod Valid
+pub mod Within
+pub mod Joined
