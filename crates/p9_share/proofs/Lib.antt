@@ -1,4 +1,5 @@
 pub mod Names
 pub mod Valid
 pub mod Within
+pub mod Mains
 pub mod Joined

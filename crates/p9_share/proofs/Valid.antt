@@ -280,7 +280,7 @@ differ : (x y : List ℕ) → same_name y x ≡ false → x ≢ y
 differ x y h e = true_not_false (sym (same_self y) ∙ (ap (same_name y) (sym e) ∙ h))
 
 -- the first's name isn't one of the others'
-abbrev IsUnlike : Declaration → Declaration → Type 0
+abbrev pub IsUnlike : Declaration → Declaration → Type 0
 IsUnlike d e = d.name ≢ e.name
 
 unlike_all : (names : List (List ℕ)) (d : Declaration) (ds : List Declaration) → AreNew (d.name ∷ names) ds → All (IsUnlike d) ds
