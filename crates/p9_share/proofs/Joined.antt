@@ -1,11 +1,9 @@
--- Files whose modules join can be run together.
-use Rattle.std.proofs.Common.{◌≡◌, ◌≢◌, ◌<◌, ◌≤◌, ◌⊎◌, inl, inr, ℕ, zero, suc, ◌+◌, Bool, true, false, not, ◌&&◌, ◌||◌, IsTrue, if◌then◌else◌, List, [], ◌∷◌, ◌++◌, length, map, flat_map, slice_index_or, Option, Some, None, All, AllPairs, Contains, Result, Ok, Err, refl, sym, ap, ◌∙◌, subst, arith, length-append, codes}
+-- Where the symbols of files stand among those of the modules that are linked.
+use Rattle.std.proofs.Common.{◌≡◌, ◌⊎◌, inl, inr, ℕ, zero, suc, Bool, true, false, ◌||◌, List, [], ◌∷◌, ◌++◌, map, flat_map, Option, Some, None, All, Result, Ok, Err, refl, sym, ap, ◌∙◌, subst, codes}
 use Rattle.std.specs.Prelude.{slice_get, option_and_then}
-use Rattle.std.proofs.lemmas.List.Kept.{AllPairs-cons}
 use Rattle.p9_abs.specs.declared.modules.AModule.{AModule}
 use Rattle.p9_abs.specs.declared.modules.Symbol.{Symbol}
-use Rattle.p9_abs.specs.declared.modules.Body.{Body}
-use Rattle.p9_abs.specs.declared.modules.Body.TheVariants.{Declared, Used, Text, Data, Common}
+use Rattle.p9_abs.specs.declared.modules.Body.TheVariants.{Used, Data}
 use Rattle.p9_abs.specs.Modules.{is_definition}
 use Rattle.p9_lang.specs.Form.{same_name, is_among, functions, IsFile}
 use Rattle.p9_form.specs.declared.file.Statement.{Statement}
@@ -14,35 +12,31 @@ use Rattle.p9_form.specs.declared.file.First.TheVariants as first
 use Rattle.p9_form.specs.declared.file.Declaration.{Declaration}
 use Rattle.p9_form.specs.declared.file.File.{File}
 use Rattle.p9_form.specs.Items.{items_of}
-use Rattle.p9_form.specs.Sharing.{Initial, initial_in, initials, tentative_in, tentatives, defined_names, declarations, statements, main_in, mains, names_in, AreJoined}
+use Rattle.p9_form.specs.Sharing.{initial_in, initials, tentative_in, tentatives, defined_names, declarations, statements, names_in}
 use Rattle.p9_form.specs.declared.file.Operand.{Operand}
 use Rattle.p9_form.specs.declared.file.Operand.TheVariants.{Variable, Number}
 use Rattle.p9_form.specs.declared.file.Statement.TheVariants.{Assign, Write, Exits}
 use Rattle.p9_form.specs.Sharing.{named_by, named_if}
-use Rattle.p9_form.proofs.Formed.{FitsOperand, FitsIf, FitsStatement, FitStatements, names_behind, FitsFile, file_fits}
+use Rattle.p9_form.proofs.Formed.{FitsOperand, FitsIf, FitsStatement, FitStatements, names_behind, FitsFile}
 use Rattle.p9_base.specs.Numbers.{word_bytes}
 use Rattle.p9_abs.specs.declared.modules.DataPiece.{DataPiece}
 use Rattle.p9_abs.specs.declared.modules.DataPiece.TheVariants.{Raw}
 use Rattle.p9_share.proofs.Names.{same_is}
-use Rattle.p9_share.proofs.Valid.{IsVariableName, Parts, parts_of, pairs_append, pairs_none, pairs_one, all_none, all_cons, all_head, all_tail, IsUnlike}
+use Rattle.p9_share.proofs.Valid.{IsVariableName, parts_of}
 use Rattle.p9_names.specs.declared.table.Def.{Def}
-use Rattle.p9_names.specs.declared.table.LinkFault.{LinkFault}
-use Rattle.p9_names.specs.declared.table.LinkFault.TheVariants.{Memory}
-use Rattle.p9_names.specs.declared.rules.Rule.TheVariants.{Once, Agreement}
 use Rattle.p9_names.specs.BuiltIn.{builtin_module, builtin_symbols}
-use Rattle.p9_names.specs.Linking.{symbol_at, Occurs, Defines, Conflicts, IsKept, Uses}
-use Rattle.p9_names.specs.Answers.{linked, Joins, IsRefusal}
+use Rattle.p9_names.specs.Linking.{symbol_at, Occurs, Defines}
+use Rattle.p9_names.specs.Answers.{linked}
 use Rattle.std.specs.List.{list_any}
 use Rattle.p9_share.specs.Symbols.{global, is_exits, is_write, used_if, system_symbols, module_of, symbols_of, variable_symbol, body_of, main_symbol, main_symbols, used_names}
-use Rattle.p9_share.proofs.Within.{Within, get_front, within_left, within_right, within_map, from_map, within_append, within_step, within_none, within_next, within_flat_map, from_flat_map, all_within, from_all, contains_within, get_at, get_is}
-use Rattle.p9_share.proofs.Mains.{no_mains, one_main_at}
+use Rattle.p9_share.proofs.Within.{Within, get_front, within_left, within_right, within_map, from_map, within_append, within_step, within_none, within_next, within_flat_map, all_within}
 
 -- A place of a file's symbol in the modules that are linked
 
 abbrev pub place_of : ℕ → ℕ → Def
 place_of i k = record { «module» = i; symbol = k }
 
-module_at : (files : List File) (i : ℕ) (f : File) → slice_get files i ≡ Some f → slice_get (linked (map module_of files)) i ≡ Some (module_of f)
+pub module_at : (files : List File) (i : ℕ) (f : File) → slice_get files i ≡ Some f → slice_get (linked (map module_of files)) i ≡ Some (module_of f)
 module_at files i f h = get_front (map module_of files) (builtin_module ∷ []) i (module_of f) (mapped files i f h)
   where
     mapped : (files : List File) (i : ℕ) (f : File) → slice_get files i ≡ Some f → slice_get (map module_of files) i ≡ Some (module_of f)
@@ -57,7 +51,7 @@ pub symbol_there : (files : List File) (i k : ℕ) (f : File) (s : Symbol) → s
     → symbol_at (linked (map module_of files)) (place_of i k) ≡ Some s
 symbol_there files i k f s h g = ap (λ o. option_and_then (λ m. slice_get m.symbols k) o) (module_at files i f h) ∙ g
 
-occurs_there : (files : List File) (i k : ℕ) (f : File) (s : Symbol) → slice_get files i ≡ Some f → slice_get (symbols_of f) k ≡ Some s → s.local ≡ false
+pub occurs_there : (files : List File) (i k : ℕ) (f : File) (s : Symbol) → slice_get files i ≡ Some f → slice_get (symbols_of f) k ≡ Some s → s.local ≡ false
     → Occurs (linked (map module_of files)) s.name (place_of i k) s
 occurs_there files i k f s h g l = record { stands = symbol_there files i k f s h g; global = l; named = refl }
 
@@ -83,7 +77,7 @@ variable_there f d w = by (within_append f.before f.after d w)
     by (inl b) = variable_before f d b
     by (inr a) = variable_after f d a
 
-main_there : (f : File) (ss : List Statement) → f.main ≡ Some ss → Within (symbols_of f) main_symbol
+pub main_there : (f : File) (ss : List Statement) → f.main ≡ Some ss → Within (symbols_of f) main_symbol
 main_there f ss e =
     within_right (system_symbols (statements f.main)) (map (variable_symbol (used_names f)) f.before ++ (main_symbols f.main ++ map (variable_symbol (used_names f)) f.after)) main_symbol
     (within_right (map (variable_symbol (used_names f)) f.before) (main_symbols f.main ++ map (variable_symbol (used_names f)) f.after) main_symbol
@@ -144,7 +138,7 @@ origin_of f s w =
 
 -- A definition in the linked modules is a file's or the system's
 
-data From (files : List File) (s : Symbol) : Type 0 where
+pub data From (files : List File) (s : Symbol) : Type 0 where
   OfFile : (i : ℕ) (f : File) → slice_get files i ≡ Some f → Within (symbols_of f) s → From files s
   OfBuiltIn : Within builtin_symbols s → From files s
 
@@ -165,7 +159,7 @@ module_from (f ∷ files) (suc i) m k s e g = later (module_from files i m k s e
     later (OfFile i g e w) = OfFile (suc i) g e w
     later (OfBuiltIn w) = OfBuiltIn w
 
-symbol_from : (files : List File) (d : Def) (s : Symbol) → symbol_at (linked (map module_of files)) d ≡ Some s → From files s
+pub symbol_from : (files : List File) (d : Def) (s : Symbol) → symbol_at (linked (map module_of files)) d ≡ Some s → From files s
 symbol_from files d s h = by (slice_get (linked (map module_of files)) d.«module») refl h
   where
     by : (o : Option AModule) → slice_get (linked (map module_of files)) d.«module» ≡ o → option_and_then (λ m. slice_get m.symbols d.symbol) o ≡ Some s → From files s
@@ -182,7 +176,7 @@ true_false h = cc
 false_true : false ≡ true → ⊥
 false_true h = cc
 
-builtin_names : (s : Symbol) → Within builtin_symbols s → IsSystemName s
+pub builtin_names : (s : Symbol) → Within builtin_symbols s → IsSystemName s
 builtin_names s w = go w.0 w.1
   where
     go : (k : ℕ) → slice_get builtin_symbols k ≡ Some s → IsSystemName s
@@ -202,7 +196,7 @@ full_first : (f : First) (used : Bool) (value : ℕ) → f ≡ first.Number valu
 full_first f used value e = (Raw (word_bytes value) ∷ [], ap (λ g. body_of g used) e)
 
 -- what a declaration defines
-data Defined (d : Declaration) : Type 0 where
+pub data Defined (d : Declaration) : Type 0 where
   AsZero : d.first ≡ first.Zero → Defined d
   AsNumber : (value : ℕ) → d.first ≡ first.Number value → Defined d
 
@@ -219,7 +213,7 @@ initial_of_number : (d : Declaration) (value : ℕ) → d.first ≡ first.Number
 initial_of_number d value e = ap (λ f. initial_in (record d { first = f })) e
 
 -- a declaration that defines its name, in one of the files
-defined_name : (files : List File) (f : File) (d : Declaration) → Within files f → Within (declarations f) d → Defined d → Within (defined_names files) d.name
+pub defined_name : (files : List File) (f : File) (d : Declaration) → Within files f → Within (declarations f) d → Defined d → Within (defined_names files) d.name
 defined_name files f d w v (AsZero e) =
     within_right (map (λ i. i.name) (initials files)) (tentatives files) d.name
     (within_flat_map (λ g. flat_map tentative_in (declarations g)) files f d.name w
@@ -232,21 +226,21 @@ defined_name files f d w v (AsNumber value e) =
 
 -- Variables' names are no functions'
 
-abbrev VariablesOf : File → Type 0
+abbrev pub VariablesOf : File → Type 0
 VariablesOf f = (d : Declaration) → Within (declarations f) d → IsVariableName d.name
 
-variables_of : (f : File) → FitsFile f → VariablesOf f
+pub variables_of : (f : File) → FitsFile f → VariablesOf f
 variables_of f h d w = by (within_append f.before f.after d w)
   where
     by : Within f.before d ⊎ Within f.after d → IsVariableName d.name
     by (inl b) = all_within (λ e. IsVariableName e.name) f.before d (parts_of f h).before b
     by (inr a) = all_within (λ e. IsVariableName e.name) f.after d (parts_of f h).after a
 
-used_defines : (s : Symbol) → s.body ≡ Used → is_definition s.body ≡ true → ⊥
+pub used_defines : (s : Symbol) → s.body ≡ Used → is_definition s.body ≡ true → ⊥
 used_defines s e d = false_true (sym (ap is_definition e) ∙ d)
 
 -- the definition of a variable's name is a declaration of one of the files
-defines_variable : (files : List File) (x : List ℕ) (e : Def) → All (λ f. IsFile (items_of f)) files → IsVariableName x
+pub defines_variable : (files : List File) (x : List ℕ) (e : Def) → All (λ f. IsFile (items_of f)) files → IsVariableName x
     → Defines (linked (map module_of files)) x e → Within (defined_names files) x
 defines_variable files x e h v d = by (symbol_from files e d.symbol d.occurs.stands)
   where
@@ -296,7 +290,7 @@ names_statement names (Assign y left right) x h w = by (within_step y (named_by 
 names_statement names (Write text count) x h w = names_operand names count x h.1 w
 names_statement names (Exits text) x h w = absurd (within_none x w)
 
-names_statements : (names : List (List ℕ)) (ss : List Statement) (x : List ℕ) → FitStatements names ss → Within (flat_map names_in ss) x → is_among names x ≡ true
+pub names_statements : (names : List (List ℕ)) (ss : List Statement) (x : List ℕ) → FitStatements names ss → Within (flat_map names_in ss) x → is_among names x ≡ true
 names_statements names [] x h w = absurd (within_none x w)
 names_statements names (s ∷ ss) x h w = by (within_append (names_in s) (flat_map names_in ss) x w) (λ v. names_statements names ss x h.1 v)
   where
@@ -305,11 +299,11 @@ names_statements names (s ∷ ss) x h w = by (within_append (names_in s) (flat_m
     by (inr v) again = again v
 
 -- a name behind declarations is one of theirs, or was there before
-data Declares (names : List (List ℕ)) (ds : List Declaration) (x : List ℕ) : Type 0 where
+pub data Declares (names : List (List ℕ)) (ds : List Declaration) (x : List ℕ) : Type 0 where
   Before : is_among names x ≡ true → Declares names ds x
   Here : (d : Declaration) → Within ds d → d.name ≡ x → Declares names ds x
 
-names_behind_of : (names : List (List ℕ)) (ds : List Declaration) (x : List ℕ) → is_among (names_behind names ds) x ≡ true → Declares names ds x
+pub names_behind_of : (names : List (List ℕ)) (ds : List Declaration) (x : List ℕ) → is_among (names_behind names ds) x ≡ true → Declares names ds x
 names_behind_of names [] x h = Before h
 names_behind_of names (d ∷ ds) x h = later (names_behind_of (d.name ∷ names) ds x h)
   where

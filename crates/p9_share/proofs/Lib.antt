@@ -3,3 +3,4 @@ pub mod Valid
 pub mod Within
 pub mod Mains
 pub mod Joined
+pub mod Together

@@ -1,6 +1,6 @@
-use Rattle.std.proofs.Common.{◌≡◌, ◌≢◌, ◌⊎◌, map, All, Err, Ok, Result, IfErr, refl, sym, ap, ◌∙◌, subst, List}
+use Rattle.std.proofs.Common.{map, IfErr, sym, ◌∙◌, subst, List}
 use Rattle.p9_form.specs.declared.file.File.{File}
-use Rattle.p9_names.specs.Answers.{linked, Joins, IsRefusal}
+use Rattle.p9_names.specs.Answers.{linked, IsRefusal}
 use Rattle.p9_share.specs.Symbols.{module_of}
 use Rattle.p9_share.proofs.joining.join.Goals as goal
 

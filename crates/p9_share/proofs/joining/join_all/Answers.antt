@@ -1,9 +1,9 @@
-use Rattle.std.proofs.Common.{◌≡◌, ◌≢◌, ◌⊎◌, inl, inr, map, All, Err, Ok, Result, refl, sym, ap, ◌∙◌, subst, List}
+use Rattle.std.proofs.Common.{sym, subst, List}
 use Rattle.p9_abs.specs.declared.modules.AModule.{AModule}
-use Rattle.p9_names.specs.Answers.{linked, Joins, IsRefusal}
-use Rattle.p9_share.specs.Symbols.{module_of}
+use Rattle.p9_names.specs.Answers.{linked, IsRefusal}
 use Rattle.p9_share.proofs.Valid.{all_valid}
-use Rattle.p9_share.proofs.Joined.{files_join, ok_other, err_other}
+use Rattle.p9_share.proofs.Joined.{ok_other, err_other}
+use Rattle.p9_share.proofs.Together.{files_join}
 use Rattle.p9_share.proofs.joining.join_all.Goals as goal
 
 -- src/joining.rt:44:11
