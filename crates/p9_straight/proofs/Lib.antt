@@ -1,2 +1,4 @@
 pub mod FormRun
 pub mod Placed
+pub mod BuildLists
+pub mod BuildCode

@@ -3,5 +3,7 @@
 #![tactic(auto)]
 
 mod building;
+mod code;
+mod places;
 
 pub use building::compile;

@@ -1,0 +1,63 @@
+-- What the parts of the compiler count, write and look up.
+use Rattle.std.specs.Prelude.{◌≡◌, ◌≤◌, ◌<◌, ◌^◌, ℕ, ◌+◌, ◌*◌, Bool, if◌then◌else◌, List, [], ◌∷◌, ◌++◌, length, map, flat_map, Option, Some, None, is_some, unwrap_or, bytes_eq}
+use Rattle.std.specs.Map.{lookup}
+use Rattle.indexmap.specs.IndexMap.{insert_entry}
+use Rattle.p9_base.specs.Numbers.{word_bytes}
+use Rattle.p9_r3k.specs.declared.inst.Inst.{Inst}
+use Rattle.p9_r3k.specs.Table.{Fits, word_of}
+use Rattle.p9_form.specs.declared.file.Operand.{Operand}
+use Rattle.p9_form.specs.declared.file.Operand.TheVariants.{Variable, Number}
+use Rattle.p9_form.specs.declared.file.Statement.{Statement}
+use Rattle.p9_form.specs.declared.file.Statement.TheVariants.{Assign, Write, Exits}
+use Rattle.p9_straight.specs.Code.{code_bytes, statement_code}
+
+-- Instructions
+
+-- how many load an operand
+abbrev pub load_count : Operand → ℕ
+load_count (Variable x) = 4
+load_count (Number value) = 2
+
+-- how many a statement has
+abbrev pub statement_count : Statement → ℕ
+statement_count (Assign x left None) = load_count left + 3
+statement_count (Assign x left (Some right)) = load_count left + (load_count right + 4)
+statement_count (Write text count) = load_count count + 8
+statement_count (Exits None) = 3
+statement_count (Exits (Some text)) = 5
+
+-- how many statements have, with the exit behind them
+abbrev pub statements_count : List Statement → ℕ
+statements_count [] = 5
+statements_count (s ∷ ss) = statement_count s + statements_count ss
+
+-- the bytes of instructions
+unfoldable pub emitted : List Inst → List ℕ
+emitted code = code_bytes code
+
+abbrev pub AreFitting : List Inst → Type 0
+AreFitting [] = Unit {0}
+AreFitting (i ∷ code) = Fits i × AreFitting code
+
+-- an assignment, and a `write` of the text at this address
+abbrev pub assign_code : (place : List ℕ → ℕ) → (x : List ℕ) → (left : Operand) → Option Operand → List Inst
+assign_code place x left right = statement_code place 0 (Assign x left right)
+
+abbrev pub write_code : (place : List ℕ → ℕ) → (at : ℕ) → (count : Operand) → List Inst
+write_code place at count = statement_code place at (Write [] count)
+
+-- Places
+
+abbrev pub Entries : Type 0
+Entries = List (List ℕ × ℕ)
+
+abbrev pub held : Entries → List ℕ → Option ℕ
+held entries name = lookup (bytes_eq name) entries
+
+-- the place of a name, or 0
+abbrev pub place_at : Entries → List ℕ → ℕ
+place_at entries name = unwrap_or (held entries name) 0
+
+-- the name's first place stays
+abbrev pub noted : Entries → List ℕ → (at : ℕ) → Entries
+noted entries name at = if is_some (held entries name) then entries else insert_entry bytes_eq entries name at
