@@ -2,3 +2,4 @@ pub mod FormRun
 pub mod Placed
 pub mod BuildLists
 pub mod BuildCode
+pub mod BuildSizes

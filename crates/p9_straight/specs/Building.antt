@@ -18,17 +18,21 @@ abbrev pub load_count : Operand → ℕ
 load_count (Variable x) = 4
 load_count (Number value) = 2
 
+-- how many an assignment has
+abbrev pub assign_count : Operand → Option Operand → ℕ
+assign_count left None = load_count left + 3
+assign_count left (Some right) = load_count left + (load_count right + 4)
+
 -- how many a statement has
 abbrev pub statement_count : Statement → ℕ
-statement_count (Assign x left None) = load_count left + 3
-statement_count (Assign x left (Some right)) = load_count left + (load_count right + 4)
+statement_count (Assign x left right) = assign_count left right
 statement_count (Write text count) = load_count count + 8
 statement_count (Exits None) = 3
 statement_count (Exits (Some text)) = 5
 
--- how many statements have, with the exit behind them
+-- how many statements have
 abbrev pub statements_count : List Statement → ℕ
-statements_count [] = 5
+statements_count [] = 0
 statements_count (s ∷ ss) = statement_count s + statements_count ss
 
 -- the bytes of instructions

@@ -5,5 +5,6 @@
 mod building;
 mod code;
 mod places;
+mod sizes;
 
 pub use building::compile;
