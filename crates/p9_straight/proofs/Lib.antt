@@ -2,4 +2,6 @@ pub mod FormRun
 pub mod Placed
 pub mod BuildLists
 pub mod BuildCode
+pub mod BuildPlaces
+pub mod BuildLayout
 pub mod BuildSizes

@@ -6,17 +6,20 @@ use Rattle.p9_base.specs.Numbers.{word_bytes}
 use Rattle.p9_r3k.specs.declared.inst.Inst.{Inst}
 use Rattle.p9_r3k.specs.Table.{Fits, word_of}
 use Rattle.p9_form.specs.declared.file.Operand.{Operand}
-use Rattle.p9_form.specs.declared.file.Operand.TheVariants.{Variable, Number}
+use Rattle.p9_form.specs.declared.file.Operand.TheVariants as operand
 use Rattle.p9_form.specs.declared.file.Statement.{Statement}
 use Rattle.p9_form.specs.declared.file.Statement.TheVariants.{Assign, Write, Exits}
+use Rattle.p9_form.specs.declared.file.Declaration.{Declaration}
+use Rattle.p9_form.specs.Sharing.{initial_in}
+use Rattle.p9_straight.specs.Layout.{Datum, Variable, Text, datum_bytes, text_in, or_else, variable_in}
 use Rattle.p9_straight.specs.Code.{code_bytes, statement_code}
 
 -- Instructions
 
 -- how many load an operand
 abbrev pub load_count : Operand → ℕ
-load_count (Variable x) = 4
-load_count (Number value) = 2
+load_count (operand.Variable x) = 4
+load_count (operand.Number value) = 2
 
 -- how many an assignment has
 abbrev pub assign_count : Operand → Option Operand → ℕ
@@ -65,3 +68,24 @@ place_at entries name = unwrap_or (held entries name) 0
 -- the name's first place stays
 abbrev pub noted : Entries → List ℕ → (at : ℕ) → Entries
 noted entries name at = if is_some (held entries name) then entries else insert_entry bytes_eq entries name at
+
+-- Data with first values
+
+-- where a name is found: in the map, or among data that begin at this address
+abbrev pub found : Entries → (at : ℕ) → List Datum → List ℕ → Option ℕ
+found entries at ds name = or_else (held entries name) (variable_in at ds name)
+
+-- from a map and bytes with these data to come, to a map and bytes with those to come
+pub record Lays (start : ℕ) (old : Entries) (before : List ℕ) (all : List Datum) (new : Entries) (after : List ℕ) (rest : List Datum) : Type 0 where
+  pub bytes : after ++ flat_map datum_bytes rest ≡ before ++ flat_map datum_bytes all
+  pub places : (name : List ℕ) → found new (start + length after) rest name ≡ found old (start + length before) all name
+
+-- the same, whatever comes behind all of them
+pub record LaysTo (start : ℕ) (old : Entries) (before : List ℕ) (all : List Datum) (new : Entries) (after : List ℕ) (rest : List Datum) : Type 0 where
+  pub with_more : (more : List Datum) → Lays start old before (all ++ more) new after (rest ++ more)
+
+abbrev pub variable_data : List Declaration → List Datum
+variable_data ds = map Variable (flat_map initial_in ds)
+
+abbrev pub text_data : List Statement → List Datum
+text_data ss = map Text (flat_map text_in ss)
