@@ -4,4 +4,5 @@ pub mod BuildLists
 pub mod BuildCode
 pub mod BuildPlaces
 pub mod BuildLayout
+pub mod BuildCommons
 pub mod BuildSizes

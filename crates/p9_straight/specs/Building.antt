@@ -1,8 +1,8 @@
 -- What the parts of the compiler count, write and look up.
-use Rattle.std.specs.Prelude.{◌≡◌, ◌≤◌, ◌<◌, ◌^◌, ℕ, ◌+◌, ◌*◌, Bool, if◌then◌else◌, List, [], ◌∷◌, ◌++◌, length, map, flat_map, Option, Some, None, is_some, unwrap_or, bytes_eq}
+use Rattle.std.specs.Prelude.{◌≡◌, ◌≤◌, ◌<◌, ◌^◌, ℕ, ◌+◌, ◌*◌, Bool, ◌||◌, if◌then◌else◌, List, [], ◌∷◌, ◌++◌, length, map, flat_map, Option, Some, None, is_some, unwrap_or, bytes_eq}
 use Rattle.std.specs.Map.{lookup}
 use Rattle.indexmap.specs.IndexMap.{insert_entry}
-use Rattle.p9_base.specs.Numbers.{word_bytes}
+use Rattle.p9_lang.specs.Form.{same_name}
 use Rattle.p9_r3k.specs.declared.inst.Inst.{Inst}
 use Rattle.p9_r3k.specs.Table.{Fits, word_of}
 use Rattle.p9_form.specs.declared.file.Operand.{Operand}
@@ -10,8 +10,9 @@ use Rattle.p9_form.specs.declared.file.Operand.TheVariants as operand
 use Rattle.p9_form.specs.declared.file.Statement.{Statement}
 use Rattle.p9_form.specs.declared.file.Statement.TheVariants.{Assign, Write, Exits}
 use Rattle.p9_form.specs.declared.file.Declaration.{Declaration}
-use Rattle.p9_form.specs.Sharing.{initial_in}
-use Rattle.p9_straight.specs.Layout.{Datum, Variable, Text, datum_bytes, text_in, or_else, variable_in}
+use Rattle.p9_form.specs.declared.file.File.{File}
+use Rattle.p9_form.specs.Sharing.{initial_in, tentative_in, declarations}
+use Rattle.p9_straight.specs.Layout.{Datum, Variable, Text, datum_bytes, text_in, or_else, variable_in, common_in}
 use Rattle.p9_straight.specs.Code.{code_bytes, statement_code}
 
 -- Instructions
@@ -89,3 +90,29 @@ variable_data ds = map Variable (flat_map initial_in ds)
 
 abbrev pub text_data : List Statement → List Datum
 text_data ss = map Text (flat_map text_in ss)
+
+-- Data without first values
+
+-- the names that aren't taken, each once
+abbrev pub fresh : (taken : List ℕ → Bool) → List (List ℕ) → List (List ℕ)
+fresh taken [] = []
+fresh taken (x ∷ xs) = if taken x then fresh taken xs else x ∷ fresh (λ y. same_name y x || taken y) xs
+
+abbrev pub is_held : Entries → List ℕ → Bool
+is_held entries name = is_some (held entries name)
+
+-- where a name is found: in the map, or among the words from this address on, one for each fresh name
+abbrev pub found_after : Entries → (at : ℕ) → List (List ℕ) → List ℕ → Option ℕ
+found_after entries at names name = or_else (held entries name) (common_in at (fresh (is_held entries) names) name)
+
+-- from a map and an address with these names to come, to a map and an address with those to come
+pub record Adds (old : Entries) (at : ℕ) (all : List (List ℕ)) (new : Entries) (next : ℕ) (rest : List (List ℕ)) : Type 0 where
+  pub end : next + 4 * length (fresh (is_held new) rest) ≡ at + 4 * length (fresh (is_held old) all)
+  pub places : (name : List ℕ) → found_after new next rest name ≡ found_after old at all name
+
+-- the same, whatever comes behind all of them
+pub record AddsTo (old : Entries) (at : ℕ) (all : List (List ℕ)) (new : Entries) (next : ℕ) (rest : List (List ℕ)) : Type 0 where
+  pub with_more : (more : List (List ℕ)) → Adds old at (all ++ more) new next (rest ++ more)
+
+abbrev pub commons_in : File → List (List ℕ)
+commons_in file = flat_map tentative_in (declarations file)

@@ -4,6 +4,7 @@
 
 mod building;
 mod code;
+mod commons;
 mod layout;
 mod places;
 mod sizes;
