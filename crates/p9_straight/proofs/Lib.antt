@@ -6,3 +6,4 @@ pub mod BuildPlaces
 pub mod BuildLayout
 pub mod BuildCommons
 pub mod BuildSizes
+pub mod BuildImage

@@ -12,7 +12,7 @@ use Rattle.p9_form.specs.declared.file.Statement.TheVariants.{Assign, Write, Exi
 use Rattle.p9_form.specs.declared.file.Declaration.{Declaration}
 use Rattle.p9_form.specs.declared.file.File.{File}
 use Rattle.p9_form.specs.Sharing.{initial_in, tentative_in, declarations}
-use Rattle.p9_straight.specs.Layout.{Datum, Variable, Text, datum_bytes, text_in, or_else, variable_in, common_in}
+use Rattle.p9_straight.specs.Layout.{Datum, Variable, Text, datum_bytes, text_in, or_else, variable_in, common_in, address_of, init_bytes, end_at, bss_size}
 use Rattle.p9_straight.specs.Code.{code_bytes, statement_code}
 
 -- Instructions
@@ -116,3 +116,13 @@ pub record AddsTo (old : Entries) (at : ℕ) (all : List (List ℕ)) (new : Entr
 
 abbrev pub commons_in : File → List (List ℕ)
 commons_in file = flat_map tentative_in (declarations file)
+
+-- What is laid out
+
+-- the places, the bytes, the address of the end's text and the number of bytes behind, of files whose data begin here
+pub record IsLaid (start : ℕ) (files : List File) (places : Entries) (init : List ℕ) (end bss : ℕ) : Type 0 where
+  pub place : (name : List ℕ) → place_at places name ≡ unwrap_or (address_of start files name) 0
+  pub bytes : init ≡ init_bytes files
+  pub ends : end ≡ end_at start files
+  pub behind : bss ≡ bss_size files
+  pub small : length init + bss ≤ 16777216
