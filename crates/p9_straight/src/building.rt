@@ -52,17 +52,17 @@ fn laid_out(alloc: Global, start: u32, files: &[File]) -> Result<Laid, NoMemory>
 }
 
 // The image of files.
-fn image(alloc: Global, files: &FileList) -> Result<Image, NoMemory>
+fn image(alloc: Global, files: &[File]) -> Result<Image, NoMemory>
     requires small { All IsSmall files.now }
     requires count { length files.now ≤ 16 }
     ensures parts { IfOk result (λ image. parts_of image ≡ parts_for files.now) }
     ensures bounds { IfOk result (λ image. IsWithinBounds (parts_of image)) }
     ensures no_symbols { IfOk result (λ image. image.syms.items ≡ []) }
 {
-    let statements = main_statements(&files.list);
+    let statements = main_statements(files);
     let start = data_start(statements);
-    let texts = texts_at(start, &files.list);
-    let laid = laid_out(alloc, start, &files.list)?;
+    let texts = texts_at(start, files);
+    let laid = laid_out(alloc, start, files)?;
     let mut text = Vec::new(alloc);
     main_code(&mut text, &laid.places, texts, laid.end, statements)?;
     Ok(Image {
@@ -83,7 +83,7 @@ fn image_bytes(alloc: Global, files: &FileList) -> Result<Bytes, NoMemory>
     ensures image { IfOk result (λ bytes. image_of bytes ≡ Ok (parts_for files.now)) }
     ensures bounds { IfOk result (λ bytes. IsWithinBounds (parts_for files.now)) }
 {
-    let image = image(alloc, files)?;
+    let image = image(alloc, &files.list)?;
     write_aout(alloc, &image)
 }
 
