@@ -1,14 +1,13 @@
 -- Instructions as bytes: what the writers of code cite.
-use Rattle.std.proofs.Common.{◌≡◌, ◌≤◌, ◌<◌, ℕ, suc, zero, ◌+◌, ◌*◌, List, [], ◌∷◌, ◌++◌, length, flat_map, Option, Some, None, Result, Ok, Err, OnOk, refl, sym, ap, subst, ◌∙◌, arith, append_assoc, rules}
+use Rattle.std.proofs.Common.{◌≡◌, ◌<◌, ℕ, ◌+◌, List, [], ◌∷◌, ◌++◌, length, Some, None, Result, Ok, Err, OnOk, refl, sym, ap, subst, ◌∙◌, arith, append_assoc, rules}
 use Rattle.std.proofs.lemmas.List.Concat.{flat_map-append}
 use Rattle.p9_r3k.specs.declared.inst.Inst.{Inst}
 use Rattle.p9_r3k.specs.Table.{word_of}
 use Rattle.p9_base.specs.Numbers.{word_bytes}
-use Rattle.p9_form.specs.declared.file.Operand.{Operand}
 use Rattle.p9_form.specs.declared.file.Statement.{Statement}
 use Rattle.p9_form.specs.declared.file.Statement.TheVariants.{Assign, Write, Exits}
 use Rattle.p9_form.specs.Sharing.{statement_data, statements_data}
-use Rattle.p9_straight.specs.Code.{code_bytes, statement_code, statements_code, text_after}
+use Rattle.p9_straight.specs.Code.{statement_code, statements_code, text_after}
 use Rattle.p9_straight.specs.Building.{emitted, AreFitting}
 
 pub emitted_append : (xs ys : List Inst) → emitted (xs ++ ys) ≡ emitted xs ++ emitted ys
@@ -59,10 +58,11 @@ pub statements_turn : (place : List ℕ → ℕ) (end at next_at : ℕ) (s : Sta
 statements_turn place end at next_at s next rest before now whole e n p q =
     let P : List Statement → Type 0 = λ ss. (at + statements_data ss < 4294967296) × (before ++ emitted (statements_code place at end ss) ≡ whole) in
     let here = subst P e q in
-    let moved : next_at ≡ at + statement_data s = n ∙ text_after_is at s in
-    (omega (arith, here.0, moved),
-        ap (λ a. now ++ emitted (statements_code place a end next)) n
-        ∙ ap (λ bs. bs ++ emitted (statements_code place (text_after at s) end next)) p
-        ∙ append_assoc before (emitted (statement_code place at s)) (emitted (statements_code place (text_after at s) end next))
-        ∙ ap (λ bs. before ++ bs) (sym (emitted_append (statement_code place at s) (statements_code place (text_after at s) end next)))
-        ∙ here.1)
+    let moved : next_at ≡ at + statement_data s = n ∙ text_after_is at s in (
+      omega (arith, here.0, moved),
+      ap (λ a. now ++ emitted (statements_code place a end next)) n
+          ∙ ap (λ bs. bs ++ emitted (statements_code place (text_after at s) end next)) p
+          ∙ append_assoc before (emitted (statement_code place at s)) (emitted (statements_code place (text_after at s) end next))
+          ∙ ap (λ bs. before ++ bs) (sym (emitted_append (statement_code place at s) (statements_code place (text_after at s) end next)))
+          ∙ here.1,
+    )

@@ -1,5 +1,5 @@
 -- The image of files: what is laid out, and its bounds.
-use Rattle.std.proofs.Common.{zero, suc, ◌≡◌, ◌≤◌, ◌<◌, ℕ, ◌+◌, ◌-◌, ◌*◌, ◌%◌, ◌||◌, Bool, true, false, cond, List, [], ◌∷◌, ◌++◌, Option, Some, None, is_some, unwrap_or, All, length, map, flat_map, refl, sym, ap, subst, ◌∙◌, arith, append_assoc, length-append}
+use Rattle.std.proofs.Common.{◌≡◌, ◌≤◌, ℕ, ◌+◌, ◌-◌, ◌*◌, ◌%◌, ◌||◌, Bool, true, false, cond, List, [], ◌∷◌, ◌++◌, Some, is_some, unwrap_or, All, length, map, flat_map, refl, sym, ap, subst, ◌∙◌, arith, length-append}
 use Rattle.std.proofs.lemmas.List.{map-append, append-nil}
 use Rattle.p9_r3k.specs.declared.inst.Inst.{Inst}
 use Rattle.p9_r3k.specs.Memory.{text_start}
@@ -10,7 +10,7 @@ use Rattle.p9_lang.specs.Modules.{new_names}
 use Rattle.p9_form.specs.declared.file.File.{File}
 use Rattle.p9_form.specs.declared.file.Statement.{Statement}
 use Rattle.p9_form.specs.Sharing.{Initial, initials, tentatives, statements, IsSmall}
-use Rattle.p9_straight.specs.Layout.{Datum, Variable, Text, datum_bytes, text_bytes, text_in, data_of, variables_of, end_text, data_objects, init_bytes, commons, bss_size, or_else, variable_in, common_in, address_of, texts_at, end_at}
+use Rattle.p9_straight.specs.Layout.{Datum, Variable, Text, datum_bytes, text_bytes, text_in, data_of, variables_of, end_text, data_objects, init_bytes, commons, or_else, variable_in, common_in, address_of, texts_at, end_at}
 use Rattle.p9_straight.specs.Code.{code_bytes, code_size, main_code, main_of, data_start, place_in, code_of, parts_for}
 use Rattle.p9_straight.specs.Building.{Entries, emitted, held, place_at, fresh, is_held, LaysTo, AddsTo, IsLaid}
 use Rattle.p9_straight.proofs.BuildPlaces.{or_nothing}
@@ -85,7 +85,7 @@ laid_place start begin files p0 p1 i0 next b l a common name =
     let with_end = l.with_more (Text end_text ∷ []) in
     let zero_more : start + 0 ≡ start = omega arith in
     let early : held p0 name ≡ variable_in start (data_objects files) name =
-        sym (or_nothing (held p0 name)) ∙ with_end.places name ∙ ap (λ s. variable_in s (data_objects files) name) zero_more in
+    sym (or_nothing (held p0 name)) ∙ with_end.places name ∙ ap (λ s. variable_in s (data_objects files) name) zero_more in
     sym (or_nothing (held p1 name))
     ∙ (a.with_more []).places name
     ∙ ap (λ ns. or_else (held p0 name) (common_in begin ns name)) common
@@ -113,7 +113,7 @@ laid_is start files e0 p0 p1 b0 i0 i1 end begin next e b count lays small i en a
     let l : LaysTo start [] [] (flat_map data_of files) p0 i0 [] = subst (P []) b (subst (λ m. P m b0) e lays) in
     let bytes : i1 ≡ init_bytes files = i ∙ (l.with_more (Text end_text ∷ [])).bytes in
     let before_end : i0 ≡ flat_map datum_bytes (flat_map data_of files) =
-        sym (append-nil i0) ∙ (l.with_more []).bytes ∙ ap (flat_map datum_bytes) (append-nil (flat_map data_of files)) in
+    sym (append-nil i0) ∙ (l.with_more []).bytes ∙ ap (flat_map datum_bytes) (append-nil (flat_map data_of files)) in
     let common = commons_are start files p0 i0 l in
     let starts : begin ≡ start + length (init_bytes files) = at ∙ ap (λ bs. start + length bs) bytes in
     let ended = (adds.with_more []).end in

@@ -1,5 +1,5 @@
 -- Data that are laid out one behind the other.
-use Rattle.std.proofs.Common.{zero, suc, ◌≡◌, ◌≤◌, ◌<◌, ℕ, ◌+◌, ◌*◌, ◌-◌, ◌%◌, Bool, cond, List, [], ◌∷◌, ◌++◌, Option, Some, None, Result, Ok, Err, OnOk, length, map, flat_map, replicate, All, refl, sym, ap, subst, ◌∙◌, arith, append_assoc, length-append}
+use Rattle.std.proofs.Common.{◌≡◌, ◌≤◌, ℕ, ◌+◌, ◌*◌, ◌-◌, ◌%◌, List, [], ◌∷◌, ◌++◌, Some, None, Result, Ok, Err, OnOk, length, map, flat_map, replicate, All, refl, sym, ap, subst, ◌∙◌, arith, append_assoc, length-append}
 use Rattle.std.proofs.lemmas.List.{map-append, length-replicate}
 use Rattle.std.proofs.lemmas.List.Concat.{flat_map-append}
 use Rattle.std.proofs.lemmas.List.Elements.{All-rest}
@@ -11,9 +11,9 @@ use Rattle.p9_form.specs.declared.file.Declaration.{Declaration}
 use Rattle.p9_form.specs.declared.file.Statement.{Statement}
 use Rattle.p9_form.specs.declared.file.Statement.TheVariants.{Assign, Write, Exits}
 use Rattle.p9_form.specs.declared.file.File.{File}
-use Rattle.p9_form.specs.Sharing.{Initial, initial_in, declarations, statements, declared_data, statement_data, statements_data, IsSmall}
+use Rattle.p9_form.specs.Sharing.{Initial, initial_in, statements, declared_data, statements_data, IsSmall}
 use Rattle.p9_straight.specs.Layout.{Datum, Variable, Text, datum_bytes, text_bytes, text_in, data_of, or_else, variable_in}
-use Rattle.p9_straight.specs.Building.{Entries, held, noted, found, Lays, LaysTo, variable_data, text_data}
+use Rattle.p9_straight.specs.Building.{Entries, held, noted, Lays, LaysTo, variable_data, text_data}
 use Rattle.p9_straight.proofs.BuildPlaces.{held_noted, or_else_if}
 
 -- One variable
@@ -23,11 +23,11 @@ lays_one start old before v new after p q = record {
   with_more = λ more. record {
     bytes = ap (λ bs. bs ++ flat_map datum_bytes more) p ∙ append_assoc before (word_bytes v.value) (flat_map datum_bytes more);
     places = λ name.
-      let at = start + length before in
-      let size : start + length after ≡ at + 4 = omega (arith, ap length p, length-append before (word_bytes v.value)) in
-      ap (λ a. or_else (held new name) (variable_in a more name)) size
-      ∙ ap (λ o. or_else o (variable_in (at + 4) more name)) (ap (λ m. held m name) q ∙ held_noted old v.name at name)
-      ∙ or_else_if (held old name) (same_name name v.name) at (variable_in (at + 4) more name);
+        let at = start + length before in
+        let size : start + length after ≡ at + 4 = omega (arith, ap length p, length-append before (word_bytes v.value)) in
+        ap (λ a. or_else (held new name) (variable_in a more name)) size
+        ∙ ap (λ o. or_else o (variable_in (at + 4) more name)) (ap (λ m. held m name) q ∙ held_noted old v.name at name)
+        ∙ or_else_if (held old name) (same_name name v.name) at (variable_in (at + 4) more name);
   };
 }
 
@@ -48,19 +48,19 @@ on_both (Err e) f p q = tt
 pub lays_append : (start : ℕ) (a c e : Entries) (b d f : List ℕ) (xs ys : List Datum) → LaysTo start a b xs c d [] → LaysTo start c d ys e f [] → LaysTo start a b (xs ++ ys) e f []
 lays_append start a c e b d f xs ys one two = record {
   with_more = λ more.
-    let P : List Datum → Type 0 = λ ds. Lays start a b ds e f more in
-    let p = one.with_more (ys ++ more) in
-    let q = two.with_more more in
-    subst P (sym (append_assoc xs ys more)) (record { bytes = q.bytes ∙ p.bytes; places = λ name. q.places name ∙ p.places name });
+      let P : List Datum → Type 0 = λ ds. Lays start a b ds e f more in
+      let p = one.with_more (ys ++ more) in
+      let q = two.with_more more in
+      subst P (sym (append_assoc xs ys more)) (record { bytes = q.bytes ∙ p.bytes; places = λ name. q.places name ∙ p.places name });
 }
 
 pub lays_turn : (start : ℕ) (a c e : Entries) (b d f : List ℕ) (all xs next rest : List Datum) → rest ≡ xs ++ next → LaysTo start a b all c d rest → LaysTo start c d xs e f [] → LaysTo start a b all e f next
 lays_turn start a c e b d f all xs next rest is one two = record {
   with_more = λ more.
-    let P : List Datum → Type 0 = λ ds. Lays start a b (all ++ more) c d ds in
-    let p = subst P (ap (λ ds. ds ++ more) is ∙ append_assoc xs next more) (one.with_more more) in
-    let q = two.with_more (next ++ more) in
-    record { bytes = q.bytes ∙ p.bytes; places = λ name. q.places name ∙ p.places name };
+      let P : List Datum → Type 0 = λ ds. Lays start a b (all ++ more) c d ds in
+      let p = subst P (ap (λ ds. ds ++ more) is ∙ append_assoc xs next more) (one.with_more more) in
+      let q = two.with_more (next ++ more) in
+      record { bytes = q.bytes ∙ p.bytes; places = λ name. q.places name ∙ p.places name };
 }
 
 -- Texts
@@ -80,8 +80,8 @@ lays_texts start places before after ts p = record {
   with_more = λ more. record {
     bytes = ap (λ bs. bs ++ flat_map datum_bytes more) p ∙ append_assoc before (flat_map text_bytes ts) (flat_map datum_bytes more) ∙ ap (λ bs. before ++ bs) (sym (texts_bytes ts more));
     places = λ name.
-      let size : start + length after ≡ start + length before + length (flat_map text_bytes ts) = omega (arith, ap length p, length-append before (flat_map text_bytes ts)) in
-      ap (λ a. or_else (held places name) (variable_in a more name)) size ∙ ap (or_else (held places name)) (sym (texts_hide (start + length before) ts more name));
+        let size : start + length after ≡ start + length before + length (flat_map text_bytes ts) = omega (arith, ap length p, length-append before (flat_map text_bytes ts)) in
+        ap (λ a. or_else (held places name) (variable_in a more name)) size ∙ ap (or_else (held places name)) (sym (texts_hide (start + length before) ts more name));
   };
 }
 
@@ -119,7 +119,8 @@ file_small r b d f g file s p q three =
 
 -- a file before those that are left
 pub files_turn : (start : ℕ) (a c e : Entries) (b d f : List ℕ) (all : List Datum) (x : File) (next rest whole : List File) → rest ≡ x ∷ next → LaysTo start a b all c d (flat_map data_of rest) × All IsSmall rest × (length d + 131072 * length rest ≤ length b + 131072 * length whole) → LaysTo start c d (data_of x) e f [] → length f ≤ length d + 131072 → LaysTo start a b all e f (flat_map data_of next) × All IsSmall next × (length f + 131072 * length next ≤ length b + 131072 * length whole)
-files_turn start a c e b d f all x next rest whole is p q small =
-    (lays_turn start a c e b d f all (data_of x) (flat_map data_of next) (flat_map data_of rest) (ap (flat_map data_of) is) p.0 q,
-        All-rest IsSmall x next rest is p.1,
-        omega (arith, p.2, ap length is))
+files_turn start a c e b d f all x next rest whole is p q small = (
+  lays_turn start a c e b d f all (data_of x) (flat_map data_of next) (flat_map data_of rest) (ap (flat_map data_of) is) p.0 q,
+  All-rest IsSmall x next rest is p.1,
+  omega (arith, p.2, ap length is),
+)

@@ -1,7 +1,6 @@
 -- What a map of places holds.
-use Rattle.std.proofs.Common.{zero, suc, ◌≡◌, ◌≢◌, ℕ, ◌+◌, ◌==◌, ◌&&◌, ◌||◌, Bool, true, false, cond, List, [], ◌∷◌, ◌++◌, Option, Some, None, is_some, bytes_eq, length, refl, sym, ap, subst, ◌∙◌, arith, true≢false}
+use Rattle.std.proofs.Common.{◌≡◌, ℕ, ◌==◌, ◌&&◌, Bool, true, false, cond, List, [], ◌∷◌, Option, Some, None, is_some, bytes_eq, refl, sym, ap, ◌∙◌, true≢false}
 use Rattle.std.specs.Cmp.Lexicographic.{bytes_decides}
-use Rattle.std.specs.Map.{lookup}
 use Rattle.indexmap.specs.IndexMap.{insert_entry}
 use Rattle.p9_lang.specs.Form.{same_name}
 use Rattle.p9_straight.specs.Layout.{or_else}
@@ -52,7 +51,6 @@ or_nothing (Some a) = refl
 pub held_noted : (entries : Entries) (name : List ℕ) (at : ℕ) (q : List ℕ) → held (noted entries name at) q ≡ or_else (held entries q) (cond (same_name q name) (Some at) None)
 held_noted entries name at q = by (bytes_eq q name) refl (held entries name) refl
   where
-
     stays : (a : ℕ) → held entries name ≡ Some a → held (noted entries name at) q ≡ held entries q
     stays a h = ap (λ o. held (cond (is_some o) entries (insert_entry bytes_eq entries name at)) q) h
 

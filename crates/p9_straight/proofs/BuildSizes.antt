@@ -1,5 +1,5 @@
 -- How many instructions the code has.
-use Rattle.std.proofs.Common.{◌≡◌, ◌≤◌, ◌<◌, ℕ, suc, zero, ◌+◌, ◌*◌, List, [], ◌∷◌, ◌++◌, length, Option, Some, None, is_some, Bool, true, false, All, flat_map, refl, sym, ap, subst, ◌∙◌, arith, length-append, true≢false}
+use Rattle.std.proofs.Common.{◌≡◌, ◌≤◌, ◌<◌, ℕ, ◌+◌, ◌*◌, List, [], ◌∷◌, length, Option, Some, None, is_some, Bool, true, false, All, flat_map, refl, sym, ap, ◌∙◌, arith, length-append, true≢false}
 use Rattle.std.proofs.lemmas.List.Concat.{flat_map-append}
 use Rattle.std.proofs.lemmas.List.Elements.{All-rest, All-head, All-tail}
 use Rattle.p9_r3k.specs.declared.inst.Inst.{Inst}
@@ -8,11 +8,11 @@ use Rattle.p9_form.specs.declared.file.Operand.TheVariants.{Variable, Number}
 use Rattle.p9_form.specs.declared.file.Statement.{Statement}
 use Rattle.p9_form.specs.declared.file.Statement.TheVariants.{Assign, Write, Exits}
 use Rattle.p9_form.specs.declared.file.File.{File}
-use Rattle.p9_form.specs.Sharing.{initial_in, main_in, statements, declared_data, statements_data, declarations, IsSmall}
+use Rattle.p9_form.specs.Sharing.{initial_in, statements, declared_data, statements_data, IsSmall}
 use Rattle.p9_straight.specs.Layout.{variables_of, texts_at, texts_from}
-use Rattle.p9_straight.specs.Code.{load_operand, store_code, statement_code, statements_code, main_code, text_after, code_size, main_of, code_bytes}
+use Rattle.p9_straight.specs.Code.{load_operand, store_code, statement_code, statements_code, main_code, text_after, code_size, main_of}
 use Rattle.p9_straight.proofs.BuildLayout.{declared_append}
-use Rattle.p9_straight.specs.Building.{load_count, assign_count, statement_count, statements_count}
+use Rattle.p9_straight.specs.Building.{load_count, statement_count, statements_count}
 
 pub load_length : (place : List ℕ → ℕ) (r : ℕ) (o : Operand) → length (load_operand place r o) ≡ load_count o
 load_length place r (Variable x) = refl
@@ -50,10 +50,6 @@ statement_most (Exits (Some text)) = omega arith
 pub statements_most : (ss : List Statement) → statements_count ss ≤ 12 * length ss
 statements_most [] = omega arith
 statements_most (s ∷ ss) = omega (arith, statement_most s, statements_most ss)
-
--- a statement before those that are left
-pub count_turn : (now next_count : ℕ) (s : Statement) (next rest whole : List Statement) → rest ≡ s ∷ next → next_count ≡ now + statement_count s → now + statements_count rest ≡ 6 + statements_count whole → next_count + statements_count next ≡ 6 + statements_count whole
-count_turn now next_count s next rest whole e n p = omega (arith, ap statements_count e)
 
 pub count_below : (now : ℕ) (rest whole : List Statement) → length whole ≤ 65536 → now + statements_count rest ≡ 6 + statements_count whole → now ≤ 786438
 count_below now rest whole h p = omega (arith, statements_most whole)
@@ -93,11 +89,12 @@ texts_none at x next h = by x.main h
 
 -- a file without `main` before those that are left
 pub texts_turn : (at here size : ℕ) (x : File) (next rest files : List File) → rest ≡ x ∷ next → is_some x.main ≡ false → size ≡ 4 * length (variables_of x) → size ≤ 131072 → (texts_at here rest ≡ texts_at at files) × (main_of rest ≡ main_of files) × All IsSmall rest × (here + 131072 * length rest ≤ at + 131072 * length files) → (texts_at (here + size) next ≡ texts_at at files) × (main_of next ≡ main_of files) × All IsSmall next × (here + size + 131072 * length next ≤ at + 131072 * length files)
-texts_turn at here size x next rest files is n e small p =
-    (ap (λ s. texts_at (here + s) next) e ∙ sym (texts_none here x next n) ∙ sym (ap (texts_at here) is) ∙ p.0,
-        sym (main_none x next n) ∙ sym (ap main_of is) ∙ p.1,
-        All-rest IsSmall x next rest is p.2,
-        omega (arith, p.3, ap length is))
+texts_turn at here size x next rest files is n e small p = (
+  ap (λ s. texts_at (here + s) next) e ∙ sym (texts_none here x next n) ∙ sym (ap (texts_at here) is) ∙ p.0,
+  sym (main_none x next n) ∙ sym (ap main_of is) ∙ p.1,
+  All-rest IsSmall x next rest is p.2,
+  omega (arith, p.3, ap length is),
+)
 
 pub texts_end : (at here size : ℕ) (x : File) (next rest files : List File) → rest ≡ x ∷ next → is_some x.main ≡ true → size + statements_data (statements x.main) ≤ 131072 → main_of rest ≡ main_of files → here + 131072 * length rest ≤ at + 131072 * length files → here + size + statements_data (main_of files) ≤ at + 131072 * length files
 texts_end at here size x next rest files is y small m p =

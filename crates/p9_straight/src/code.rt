@@ -8,20 +8,26 @@ ghost use Rattle.p9_straight.specs.Code.{load_operand, store_code, exit_code, st
 ghost use Rattle.p9_straight.specs.Building.{emitted, AreFitting, place_at, assign_code, write_code};
 
 use crate::places::place_of;
+use crate::words::push_word;
 use indexmap::IndexMap;
-use p9_base::{Bytes, Name, NoMemory, put32};
+use p9_base::{Bytes, Name, NoMemory};
 use p9_form::{Operand, Statement};
 use p9_r3k::{Inst, encode};
 
 // The registers of the stack, of the number of a system call, and three for values.
 const STACK: u32 = 29;
+
 const CALL: u32 = 1;
+
 const VALUE: u32 = 2;
+
 const OTHER: u32 = 3;
+
 const PLACE: u32 = 4;
 
 // The numbers of system calls.
 const EXITS: u32 = 8;
+
 const WRITE: u32 = 20;
 
 // -16 as a half word: the room for the arguments of a system call.
@@ -33,10 +39,7 @@ fn push(out: &mut Vec<u8>, instruction: &Inst) -> Result<(), NoMemory>
     requires { Fits instruction.now }
     ensures { OnOk result (out.new.items ≡ out.old.items ++ emitted (instruction.now ∷ [])) }
 {
-    let mut word = [0u8; 4];
-    put32(&mut word, 0, encode(instruction));
-    out.extend_from_slice(&word)?;
-    Ok(())
+    push_word(out, encode(instruction))
 }
 
 // Appends instructions.
@@ -68,29 +71,47 @@ fn load_operand(
             push_all(
                 out,
                 &[
-                    Inst::Lui { rt: register, imm: place / 65536 },
-                    Inst::Ori { rs: register, rt: register, imm: place % 65536 },
-                    Inst::Lw { rs: register, rt: register, imm: 0 },
-                    Inst::Sll { rt: 0, rd: 0, sh: 0 },
+                    Inst::Lui {
+                        rt: register,
+                        imm: place / 65536,
+                    },
+                    Inst::Ori {
+                        rs: register,
+                        rt: register,
+                        imm: place % 65536,
+                    },
+                    Inst::Lw {
+                        rs: register,
+                        rt: register,
+                        imm: 0,
+                    },
+                    Inst::Sll {
+                        rt: 0,
+                        rd: 0,
+                        sh: 0,
+                    },
                 ],
             )
         }
         Operand::Number(value) => push_all(
             out,
             &[
-                Inst::Lui { rt: register, imm: *value / 65536 },
-                Inst::Ori { rs: register, rt: register, imm: *value % 65536 },
+                Inst::Lui {
+                    rt: register,
+                    imm: *value / 65536,
+                },
+                Inst::Ori {
+                    rs: register,
+                    rt: register,
+                    imm: *value % 65536,
+                },
             ],
         ),
     }
 }
 
 // Register 2 into a variable.
-fn store(
-    out: &mut Vec<u8>,
-    places: &IndexMap<Name, u32>,
-    name: &Name,
-) -> Result<(), NoMemory>
+fn store(out: &mut Vec<u8>, places: &IndexMap<Name, u32>, name: &Name) -> Result<(), NoMemory>
     ensures { OnOk result (out.new.items ≡ out.old.items ++ emitted (store_code (place_at places.now.entries) name.now)) }
 {
     let place = place_of(places, name);
@@ -117,11 +138,7 @@ fn store(
 
 // An operand is added to register 2.
 #[tactic(auto, using(crate::proofs::BuildCode::code_then))]
-fn add(
-    out: &mut Vec<u8>,
-    places: &IndexMap<Name, u32>,
-    operand: &Operand,
-) -> Result<(), NoMemory>
+fn add(out: &mut Vec<u8>, places: &IndexMap<Name, u32>, operand: &Operand) -> Result<(), NoMemory>
     ensures { OnOk result (out.new.items ≡ out.old.items ++ emitted (load_operand (place_at places.now.entries) 3 operand.now ++ Addu 2 3 2 ∷ [])) }
 {
     load_operand(out, places, OTHER, operand)?;

@@ -6,22 +6,13 @@ ghost use Rattle.p9_straight.specs.Layout.{text_bytes, text_in, data_of};
 ghost use Rattle.p9_straight.specs.Building.{noted, LaysTo, variable_data};
 
 use crate::places::note;
+use crate::words::push_word;
 use indexmap::IndexMap;
-use p9_base::{Name, NoMemory, put32};
+use p9_base::{Name, NoMemory};
 use p9_form::{Declaration, Declarations, File, First, Statement, Statements};
 use std::alloc::Global;
 
 const ZEROS: [u8; 4] = [0; 4];
-
-// Appends a word.
-fn push_word(init: &mut Vec<u8>, value: u32) -> Result<(), NoMemory>
-    ensures { OnOk result (init.new.items ≡ init.old.items ++ word_bytes value) }
-{
-    let mut word = [0u8; 4];
-    put32(&mut word, 0, value);
-    init.extend_from_slice(&word)?;
-    Ok(())
-}
 
 /// Appends a text, a zero byte, and more of them up to a whole word.
 pub(crate) fn push_text(init: &mut Vec<u8>, text: &[u8]) -> Result<(), NoMemory>

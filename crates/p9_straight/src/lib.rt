@@ -8,5 +8,6 @@ mod commons;
 mod layout;
 mod places;
 mod sizes;
+mod words;
 
 pub use building::compile;

@@ -1,4 +1,4 @@
-use Rattle.std.proofs.Common.{arith, ap, sym, length}
+use Rattle.std.proofs.Common.{arith, ap, length}
 use Rattle.p9_straight.proofs.BuildSizes.{main_small}
 use Rattle.p9_straight.proofs.BuildImage.{image_is, image_within, parts_within}
 use Rattle.p9_straight.proofs.building.image.Goals as goal

@@ -1,5 +1,5 @@
 use Rattle.std.proofs.Common.{◌≡◌, ◌≤◌, ◌+◌, ◌*◌, All, length}
-use Rattle.p9_form.specs.Sharing.{statements_data, IsSmall}
+use Rattle.p9_form.specs.Sharing.{IsSmall}
 use Rattle.p9_straight.specs.Layout.{texts_at}
 use Rattle.p9_straight.specs.Code.{main_of}
 use Rattle.p9_straight.proofs.sizes.texts_at.Given as goal
