@@ -1,3 +1,4 @@
 pub mod Items
 pub mod Spelling
 pub mod Sharing
+pub mod Scanning

@@ -7,3 +7,17 @@ pub mod BuildLayout
 pub mod BuildCommons
 pub mod BuildSizes
 pub mod BuildImage
+pub mod Positions
+pub mod LaidOut
+pub mod TextsLaid
+pub mod MachineSteps
+pub mod MachineCode
+pub mod MachineBytes
+pub mod MachineMemory
+pub mod MachineCalls
+pub mod MachineWrites
+pub mod MachineTurns
+pub mod MachineStatements
+pub mod MachineText
+pub mod MachineStart
+pub mod MachineRun

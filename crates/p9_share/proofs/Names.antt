@@ -1,0 +1,37 @@
+-- Names among others.
+use Rattle.std.proofs.Common.{◌≡◌, ℕ, Bool, true, false, ◌&&◌, ◌||◌, List, [], ◌∷◌, ◌++◌, flat_map, bytes_eq, arith, refl, sym, ap, ◌∙◌}
+use Rattle.std.specs.List.{list_any}
+use Rattle.p9_lang.specs.Form.{same_name, is_among}
+use Rattle.p9_form.specs.declared.file.Statement.{Statement}
+use Rattle.p9_form.specs.Sharing.{names_in}
+
+pub same_bytes : (a b : List ℕ) → bytes_eq a b ≡ same_name a b
+same_bytes [] [] = refl
+same_bytes [] (y ∷ ys) = refl
+same_bytes (x ∷ xs) [] = refl
+same_bytes (x ∷ xs) (y ∷ ys) = refl
+
+or_assoc : (a b c : Bool) → (a || (b || c)) ≡ ((a || b) || c)
+or_assoc true b c = refl
+or_assoc false b c = refl
+
+or_false : (a : Bool) → (a || false) ≡ a
+or_false true = refl
+or_false false = refl
+
+pub among_append : (xs ys : List (List ℕ)) (x : List ℕ) → is_among (xs ++ ys) x ≡ (is_among xs x || is_among ys x)
+among_append [] ys x = refl
+among_append (y ∷ xs) ys x =
+    ap (λ b. same_name x y || b) (among_append xs ys x)
+    ∙ or_assoc (same_name x y) (is_among xs x) (is_among ys x)
+
+-- a place and a sum
+pub named_three : (place : List ℕ) (xs ys : List (List ℕ)) (x : List ℕ)
+    → is_among (place ∷ (xs ++ ys)) x ≡ (is_among (place ∷ []) x || (is_among xs x || is_among ys x))
+named_three place xs ys x =
+    ap (λ b. same_name x place || b) (among_append xs ys x)
+    ∙ ap (λ b. b || (is_among xs x || is_among ys x)) (sym (or_false (same_name x place)))
+
+pub named_first : (s : Statement) (ss : List Statement) (x : List ℕ)
+    → is_among (flat_map names_in (s ∷ ss)) x ≡ (is_among (names_in s) x || is_among (flat_map names_in ss) x)
+named_first s ss x = among_append (names_in s) (flat_map names_in ss) x
