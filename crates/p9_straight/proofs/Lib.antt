@@ -1,5 +1,12 @@
 pub mod FormRun
 pub mod Placed
+pub mod BuildLists
+pub mod BuildCode
+pub mod BuildPlaces
+pub mod BuildLayout
+pub mod BuildCommons
+pub mod BuildSizes
+pub mod BuildImage
 pub mod Positions
 pub mod LaidOut
 pub mod TextsLaid
