@@ -1,5 +1,5 @@
 -- The modules of files of the form are valid.
-use Rattle.std.proofs.Common.{◌≡◌, ◌≢◌, ◌<◌, ◌≤◌, ◌⊎◌, inl, inr, ℕ, zero, suc, ◌+◌, ◌-◌, ◌*◌, ◌/◌, ◌%◌, ◌^◌, Bool, true, false, not, ◌&&◌, ◌||◌, IsTrue, nat_le, nat_lt, List, [], ◌∷◌, ◌++◌, length, map, flat_map, slice_index_or, Option, Some, None, All, AllPairs, refl, sym, ap, ◌∙◌, subst, arith, length-append, codes}
+use Rattle.std.proofs.Common.{◌≡◌, ◌≢◌, ◌<◌, ◌≤◌, inl, ℕ, zero, suc, ◌*◌, ◌^◌, Bool, true, false, not, ◌&&◌, ◌||◌, IsTrue, nat_le, List, [], ◌∷◌, ◌++◌, length, map, slice_index_or, Option, Some, None, All, AllPairs, refl, sym, ap, ◌∙◌, subst, arith, length-append, codes}
 use Rattle.std.specs.Prelude.{◌==◌}
 use Rattle.std.specs.List.{list_all, list_any}
 use Rattle.std.proofs.lemmas.Bool.Decides.{nat_tests}
@@ -9,10 +9,11 @@ use Rattle.p9_base.specs.Numbers.{word_bytes}
 use Rattle.p9_abs.specs.declared.instructions.Op.TheVariants.{Ret}
 use Rattle.p9_abs.specs.declared.modules.DataPiece.TheVariants.{Raw}
 use Rattle.p9_abs.specs.declared.modules.Body.{Body}
-use Rattle.p9_abs.specs.declared.modules.Body.TheVariants.{Declared, Used, Text, Data, Common}
+use Rattle.p9_abs.specs.declared.modules.Body.TheVariants.{Declared, Used, Data, Common}
 use Rattle.p9_abs.specs.declared.modules.AModule.{AModule}
 use Rattle.p9_abs.specs.declared.modules.Symbol.{Symbol}
-use Rattle.p9_abs.specs.Validity.{IsGraphic, IsName, IsSignature, AreApart, IsBoundWell, NamesWithin, IsFilled, HasWellPieced, HasSizeInRange, IsInstruction, HasFunction, IsValid}
+use Rattle.p9_abs.specs.Modules.{named_by_operand, named_by_piece, operands_of, pieces_of}
+use Rattle.p9_abs.specs.Validity.{IsGraphic, IsName, IsSignature, AreApart, IsWithin, IsInRange, NamesWithin, IsFilled, HasWellPieced, HasSizeInRange, IsInstruction, HasFunction, IsValid}
 use Rattle.p9_lang.specs.Form.{is_letter, is_letter_or_digit, is_name, is_variable_name, same_name, is_among, keywords, functions, IsFile}
 use Rattle.p9_form.specs.declared.file.Statement.{Statement}
 use Rattle.p9_form.specs.declared.file.First.{First}
@@ -21,7 +22,7 @@ use Rattle.p9_form.specs.declared.file.Declaration.{Declaration}
 use Rattle.p9_form.specs.declared.file.File.{File}
 use Rattle.p9_form.specs.Items.{items_of}
 use Rattle.p9_form.specs.Sharing.{IsSmall, declarations, statements, declared_data}
-use Rattle.p9_form.proofs.Formed.{FitDeclarations, FitsFirst, names_behind, FitsFile, file_fits}
+use Rattle.p9_form.proofs.Formed.{FitDeclarations, names_behind, FitsFile, file_fits}
 use Rattle.p9_share.specs.Symbols.{global, is_exits, is_write, used_if, module_of, symbols_of, system_symbols, signature_of, body_of, variable_symbol, main_symbol, main_symbols, used_names}
 
 -- Lists
@@ -100,10 +101,12 @@ name_fits : (x : List ℕ) → is_name x ≡ true → IsName x
 name_fits [] h = cc
 name_fits (b ∷ bs) h =
     let r = and_right (is_letter b) (list_all is_letter_or_digit bs && nat_le (length bs) 254) h in
-    let s = short_tail (length bs) (and_right (list_all is_letter_or_digit bs) (nat_le (length bs) 254) r) in
-    (omega arith, omega (arith, s),
-    all_cons IsGraphic b bs (letter_graphic b (and_left (is_letter b) (list_all is_letter_or_digit bs && nat_le (length bs) 254) h))
-    (all_digits bs (and_left (list_all is_letter_or_digit bs) (nat_le (length bs) 254) r)))
+    let s = short_tail (length bs) (and_right (list_all is_letter_or_digit bs) (nat_le (length bs) 254) r) in (
+      omega arith,
+      omega (arith, s),
+      all_cons IsGraphic b bs (letter_graphic b (and_left (is_letter b) (list_all is_letter_or_digit bs && nat_le (length bs) 254) h))
+          (all_digits bs (and_left (list_all is_letter_or_digit bs) (nat_le (length bs) 254) r)),
+    )
 
 -- a variable's name is a name, and none of the functions'
 pub record IsVariableName (x : List ℕ) : Type 0 where
@@ -145,10 +148,11 @@ pub record IsGood (s : Symbol) : Type 0 where
   pub size : HasSizeInRange s.body
   pub function : HasFunction s.body
 
-plain_names : (n : ℕ) (body : Body) → Rattle.p9_abs.specs.Modules.operands_of body ≡ [] → Rattle.p9_abs.specs.Modules.pieces_of body ≡ [] → NamesWithin n body
-plain_names n body e f =
-    (subst (λ os. All (λ o. Rattle.p9_abs.specs.Validity.IsWithin n (Rattle.p9_abs.specs.Modules.named_by_operand o)) os) (sym e) (all_none (λ o. Rattle.p9_abs.specs.Validity.IsWithin n (Rattle.p9_abs.specs.Modules.named_by_operand o))),
-    subst (λ ps. All (λ p. Rattle.p9_abs.specs.Validity.IsWithin n (Rattle.p9_abs.specs.Modules.named_by_piece p)) ps) (sym f) (all_none (λ p. Rattle.p9_abs.specs.Validity.IsWithin n (Rattle.p9_abs.specs.Modules.named_by_piece p))))
+plain_names : (n : ℕ) (body : Body) → operands_of body ≡ [] → pieces_of body ≡ [] → NamesWithin n body
+plain_names n body e f = (
+  subst (λ os. All (λ o. IsWithin n (named_by_operand o)) os) (sym e) (all_none (λ o. IsWithin n (named_by_operand o))),
+  subst (λ ps. All (λ p. IsWithin n (named_by_piece p)) ps) (sym f) (all_none (λ p. IsWithin n (named_by_piece p))),
+)
 
 used_good : (name sig : List ℕ) → IsName name → IsSignature sig → IsGood (global name sig Used)
 used_good name sig h g = record {
@@ -182,7 +186,7 @@ main_good = record {
         all_cons (IsInstruction 0 1) (record { op = Ret; operands = [] }) []
         (record {
           form = record { in_table = refl; shifts = tt };
-          operands = all_none (Rattle.p9_abs.specs.Validity.IsInRange 0 1);
+          operands = all_none (IsInRange 0 1);
           destination = λ e. absurd (true_not_false (sym e));
         })
         (all_none (IsInstruction 0 1));
@@ -225,8 +229,10 @@ variable_good_by name l used (first.Number value) h = record {
   name = h;
   sig = signature_good l;
   is_global = refl;
-  numbers = λ n. (all_none (λ o. Rattle.p9_abs.specs.Validity.IsWithin n (Rattle.p9_abs.specs.Modules.named_by_operand o)),
-  all_cons (λ p. Rattle.p9_abs.specs.Validity.IsWithin n (Rattle.p9_abs.specs.Modules.named_by_piece p)) (Raw (word_bytes value)) [] tt (all_none (λ p. Rattle.p9_abs.specs.Validity.IsWithin n (Rattle.p9_abs.specs.Modules.named_by_piece p))));
+  numbers = λ n. (
+    all_none (λ o. IsWithin n (named_by_operand o)),
+    all_cons (λ p. IsWithin n (named_by_piece p)) (Raw (word_bytes value)) [] tt (all_none (λ p. IsWithin n (named_by_piece p))),
+  );
   pieces = word_piece value;
   size = (omega arith, omega arith);
   function = tt;
@@ -280,7 +286,7 @@ differ : (x y : List ℕ) → same_name y x ≡ false → x ≢ y
 differ x y h e = true_not_false (sym (same_self y) ∙ (ap (same_name y) (sym e) ∙ h))
 
 -- the first's name isn't one of the others'
-abbrev IsUnlike : Declaration → Declaration → Type 0
+abbrev pub IsUnlike : Declaration → Declaration → Type 0
 IsUnlike d e = d.name ≢ e.name
 
 unlike_all : (names : List (List ℕ)) (d : Declaration) (ds : List Declaration) → AreNew (d.name ∷ names) ds → All (IsUnlike d) ds

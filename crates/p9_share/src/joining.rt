@@ -25,9 +25,25 @@ fn modules_of(alloc: Global, files: &[File]) -> Result<Vec<AModule>, NoMemory>
     Ok(modules)
 }
 
-/// Joins files with the system's module. Want of memory may come at any place.
-#[tactic(auto, using(crate::proofs::Valid::all_valid, crate::proofs::Valid::all_small))]
+#[tactic(auto, using(crate::proofs::Valid::all_small))]
+fn join_all(alloc: Global, files: &[File]) -> Result<(), LinkFault>
+    requires form { All (λ f. IsFile (items_of f)) files.now }
+    requires small { All IsSmall files.now }
+    requires count { length files.now ≤ 16 }
+    ensures joined { IfOk result (λ _. AreJoined files.now) }
+    ensures joins { IfOk result (λ _. Joins (linked (map module_of files.now))) }
+    ensures refused { IfErr result (IsRefusal (linked (map module_of files.now))) }
+    ensures refused_exactly { (fault : LinkFault) → fault ≢ Memory → IsRefusal (linked (map module_of files.now)) fault → (result ≡ Err fault) ⊎ (result ≡ Err Memory) }
+    ensures joined_exactly { Joins (linked (map module_of files.now)) → IsOk result ⊎ (result ≡ Err Memory) }
+{
+    let modules = modules_of(alloc, files)?;
+    match resolve(alloc, &modules) {
+        Ok(_) => Ok(()),
+        Err(fault) => Err(fault),
+    }
+}
 
+/// Joins files with the system's module. Want of memory may come at any place.
 pub fn join(alloc: Global, files: &FileList) -> Result<(), LinkFault>
     requires form { All (λ f. IsFile (items_of f)) files.now }
     requires small { All IsSmall files.now }
@@ -40,9 +56,5 @@ pub fn join(alloc: Global, files: &FileList) -> Result<(), LinkFault>
     ensures refused_exactly { (fault : LinkFault) → fault ≢ Memory → IsRefusal (linked (map module_of files.now)) fault → (result ≡ Err fault) ⊎ (result ≡ Err Memory) }
     ensures joined_exactly { Joins (linked (map module_of files.now)) → IsOk result ⊎ (result ≡ Err Memory) }
 {
-    let modules = modules_of(alloc, &files.list)?;
-    match resolve(alloc, &modules) {
-        Ok(_) => Ok(()),
-        Err(fault) => Err(fault),
-    }
+    join_all(alloc, &files.list)
 }

@@ -6,9 +6,7 @@ ghost use Rattle.p9_base.specs.Numbers.{word_bytes};
 ghost use Rattle.p9_form.specs.Sharing.{named_by, named_if, names_in};
 ghost use Rattle.p9_share.specs.Symbols.{global, is_exits, is_write, used_if, system_symbols, signature_of, body_of, variable_symbol, main_symbol, main_symbols, symbols_of, module_of, used_names};
 
-use p9_abs::{
-    AModule, Abs, Body, Code, DataPiece, Op, Operands, Pieces, Symbol, Symbols, TextDef,
-};
+use p9_abs::{AModule, Abs, Body, Code, DataPiece, Op, Operands, Pieces, Symbol, Symbols, TextDef};
 use p9_base::{Bytes, NoMemory};
 use p9_form::{Declaration, File, First, Operand, Statement};
 use std::alloc::Global;
@@ -144,7 +142,13 @@ fn put_system(
     ensures { OnOk result (symbols.new.items ≡ symbols.old.items ++ system_symbols statements.now) }
 {
     put_if(alloc, calls_exits(statements), b"exits", b"(*c;)v", symbols)?;
-    put_if(alloc, calls_write(statements), b"write", b"(i;*v;l;)l", symbols)
+    put_if(
+        alloc,
+        calls_write(statements),
+        b"write",
+        b"(i;*v;l;)l",
+        symbols,
+    )
 }
 
 // Variables

@@ -11,6 +11,8 @@ mod put;
 mod read;
 mod report;
 mod run;
+#[cfg(test)]
+mod tests;
 mod top;
 mod vi;
 
