@@ -60,7 +60,7 @@ StopsIn [] answer calls = ⊥
 StopsIn (name ∷ names) answer calls =
     StopsAt name answer calls
     ⊎ ((file : File) × (bytes : List ℕ) × (behind : List FileCall)
-        × (calls ≡ read_file name bytes ∷ behind) × HasForm bytes (items_of file) × StopsIn names answer behind)
+    × (calls ≡ read_file name bytes ∷ behind) × HasForm bytes (items_of file) × StopsIn names answer behind)
 
 -- The executable
 
@@ -157,7 +157,7 @@ abbrev pub RunCalls : (Tells : (bytes : List ℕ) → Answer → Type 0) → (na
 RunCalls Tells names answer calls =
     ((reads : List FileCall) × (calls ≡ map OnFiles reads) × StopsIn names answer reads)
     ⊎ ((files : List File) × (reads : List FileCall) × (behind : List Call)
-        × (calls ≡ map OnFiles reads ++ behind) × ReadAll names files reads × BuildCalls Tells files answer behind)
+    × (calls ≡ map OnFiles reads ++ behind) × ReadAll names files reads × BuildCalls Tells files answer behind)
 
 -- it makes these calls on the store, the source and the sink, in this order
 abbrev pub RunDoes : {I O F : Type 0} → Doing I O F → (old new : Objects I O F) → (Tells : (bytes : List ℕ) → Answer → Type 0) → (names : List (List ℕ)) → Answer → Type 0

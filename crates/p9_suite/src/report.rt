@@ -111,7 +111,13 @@ fn put_line<S: Sink>(sink: &mut S, answer: &Answer) -> bool
         Answer::Ended(text) => put_end(sink, text.bytes()),
         Answer::Usage => put_all(sink, b"usage\n"),
         Answer::Twice(name, i, j) => {
-            put_two(sink, b"vl: 40 Twice ", &name.list, u64::from(*i), u64::from(*j))
+            put_two(
+                sink,
+                b"vl: 40 Twice ",
+                &name.list,
+                u64::from(*i),
+                u64::from(*j),
+            )
         }
         Answer::NoMain => put_all(sink, b"vl: 43 NoMain\n"),
         Answer::MainType(i) => put_number_line(sink, b"vl: 44 MainType ", u64::from(*i)),
@@ -119,7 +125,13 @@ fn put_line<S: Sink>(sink: &mut S, answer: &Answer) -> bool
             put_one(sink, b"vl: 41 Unresolved ", &name.list, u64::from(*i))
         }
         Answer::Disagree(name, i, j) => {
-            put_two(sink, b"vl: 42 Disagree ", &name.list, u64::from(*i), u64::from(*j))
+            put_two(
+                sink,
+                b"vl: 42 Disagree ",
+                &name.list,
+                u64::from(*i),
+                u64::from(*j),
+            )
         }
         Answer::Absent(file) => put_both(sink, &file.list, b": absent\n"),
         Answer::ReadFault => put_all(sink, b"read fault\n"),

@@ -6,6 +6,15 @@ use std::test::Fail;
 
 const TEXT: &[u8] = b"void main(void){ exits(\"text\"); }";
 
+const HI: &[u8] = b"void main(void){ write(1, \"hi\\n\", 3); exits(0); }";
+
+const INT: &[u8] = b"int x; void main(void){ write(1, \"abc\", x); exits(0); }";
+
+const ONE: &[u8] = b"int x = 1; void main(void){ exits(0); }";
+
+const SUM: &[u8] =
+    b"extern int y; int x; void main(void){ x = y + 1; write(1, \"abcdef\", x); exits(0); }";
+
 const NONE: Fails<'static> = Fails {
     input: &[],
     out: &[],
@@ -86,55 +95,77 @@ fn result_of(
     })
 }
 
-// A line over a store, and what it comes to.
+// A line over a store, with the calls that fail, and what it comes to. The executable stands in the
+// store where the files are compiled, and nowhere else.
 #[derive(Clone, Copy)]
 struct Row<'a> {
+    line: &'a [u8],
+    sources: &'a [Source<'a>],
+    fails: Fails<'a>,
+    status: u8,
+    out: &'a [u8],
+    err: &'a [u8],
+    built: bool,
+}
+
+// A line that comes to a run.
+fn run<'a>(
     line: &'a [u8],
     sources: &'a [Source<'a>],
     status: u8,
     out: &'a [u8],
     err: &'a [u8],
-}
-
-fn row<'a>(line: &'a [u8], sources: &'a [Source<'a>], status: u8, out: &'a [u8], err: &'a [u8]) -> Row<'a> {
+) -> Row<'a> {
     Row {
         line,
         sources,
+        fails: NONE,
         status,
         out,
         err,
+        built: true,
     }
 }
 
-// The executable stands in the store where the files are compiled, and nowhere else.
-fn check(rt: &HostRuntime, row: Row<'_>, fails: Fails<'_>, built: bool) -> Result<(), Fail> {
-    let outcome = result_of(rt.alloc(), row.line, row.sources, fails)?;
-    assert_eq!(rt; outcome.status, row.status);
-    assert_eq!(rt; outcome.out.as_slice(), row.out);
-    assert_eq!(rt; outcome.err.as_slice(), row.err);
-    assert_eq!(rt; outcome.executable.is_some(), built);
-    Ok(())
+// A line that is refused.
+fn refusal<'a>(line: &'a [u8], sources: &'a [Source<'a>], status: u8, err: &'a [u8]) -> Row<'a> {
+    Row {
+        line,
+        sources,
+        fails: NONE,
+        status,
+        out: b"",
+        err,
+        built: false,
+    }
 }
 
 #[test]
 fn runs(rt: HostRuntime) -> Result<(), Fail> {
     let text = [(b"x.c".as_slice(), TEXT)];
-    let empty = [(b"x.c".as_slice(), b"void main(void){ exits(\"\"); }\n".as_slice())];
-    let zero = [(b"x.c".as_slice(), b"void main(void){ exits(0); }".as_slice())];
-    let none = [(b"x.c".as_slice(), b"void main(void){}".as_slice())];
-    let hi = [(
+    let empty = [(
         b"x.c".as_slice(),
-        b"void main(void){ write(1, \"hi\\n\", 3); exits(0); }".as_slice(),
+        b"void main(void){ exits(\"\"); }\n".as_slice(),
     )];
+    let zero = [(
+        b"x.c".as_slice(),
+        b"void main(void){ exits(0); }".as_slice(),
+    )];
+    let none = [(b"x.c".as_slice(), b"void main(void){}".as_slice())];
+    let hi = [(b"x.c".as_slice(), HI)];
     let rows = [
-        row(b"run x.c", &text, 1, b"", b"text\n"),
-        row(b"run x.c", &empty, 0, b"", b""),
-        row(b"run x.c", &zero, 0, b"", b""),
-        row(b"run x.c", &none, 1, b"", b"main\n"),
-        row(b"run x.c", &hi, 0, b"hi\n", b""),
+        run(b"run x.c", &text, 1, b"", b"text\n"),
+        run(b"run x.c", &empty, 0, b"", b""),
+        run(b"run x.c", &zero, 0, b"", b""),
+        run(b"run x.c", &none, 1, b"", b"main\n"),
+        run(b"run x.c", &hi, 0, b"hi\n", b""),
     ];
     for row in rows {
-        check(&rt, row, NONE, true)?;
+        let outcome = result_of(rt.alloc(), row.line, row.sources, row.fails)?;
+        assert_eq!(rt; outcome.status, row.status);
+        assert_eq!(rt; outcome.out.as_slice(), row.out);
+        assert_eq!(rt; outcome.err.as_slice(), row.err);
+        assert_eq!(rt; outcome.executable.is_some(), row.built);
     }
     Ok(())
 }
@@ -142,49 +173,72 @@ fn runs(rt: HostRuntime) -> Result<(), Fail> {
 #[test]
 fn faults(rt: HostRuntime) -> Result<(), Fail> {
     let text = [(b"x.c".as_slice(), TEXT)];
-    let hi = [(
-        b"x.c".as_slice(),
-        b"void main(void){ write(1, \"hi\\n\", 3); exits(0); }".as_slice(),
-    )];
-    let out = Fails {
+    let hi = [(b"x.c".as_slice(), HI)];
+    let put = Fails {
+        input: &[],
         out: &[0],
-        ..NONE
+        files: &[],
     };
-    check(&rt, row(b"run x.c", &hi, 8, b"", b"write fault\n"), out, true)?;
     let read = Fails {
+        input: &[],
+        out: &[],
         files: &[0],
-        ..NONE
     };
-    check(&rt, row(b"run x.c", &text, 9, b"", b"x.c: store fault\n"), read, false)?;
     let written = Fails {
+        input: &[],
+        out: &[],
         files: &[1],
-        ..NONE
     };
-    check(&rt, row(b"run x.c", &text, 9, b"", b"v.out: store fault\n"), written, false)
+    let rows = [
+        Row {
+            fails: put,
+            ..run(b"run x.c", &hi, 8, b"", b"write fault\n")
+        },
+        Row {
+            fails: read,
+            ..refusal(b"run x.c", &text, 9, b"x.c: store fault\n")
+        },
+        Row {
+            fails: written,
+            ..refusal(b"run x.c", &text, 9, b"v.out: store fault\n")
+        },
+    ];
+    for row in rows {
+        let outcome = result_of(rt.alloc(), row.line, row.sources, row.fails)?;
+        assert_eq!(rt; outcome.status, row.status);
+        assert_eq!(rt; outcome.out.as_slice(), row.out);
+        assert_eq!(rt; outcome.err.as_slice(), row.err);
+        assert_eq!(rt; outcome.executable.is_some(), row.built);
+    }
+    Ok(())
 }
 
 #[test]
 fn refused(rt: HostRuntime) -> Result<(), Fail> {
     let text = [(b"x.c".as_slice(), TEXT)];
-    let extern_only = [(
+    let only = [(
         b"x.c".as_slice(),
         b"extern int x; void main(void){ x = 1; }".as_slice(),
     )];
     let no_main = [(b"x.c".as_slice(), b"int x;".as_slice())];
     let argument = [(b"x.c".as_slice(), b"void main(int a){ }".as_slice())];
     let rows = [
-        row(b"run x.c", &extern_only, 5, b"", b"vl: 41 Unresolved x 0\n"),
-        row(b"run x.c", &no_main, 5, b"", b"vl: 43 NoMain\n"),
-        row(b"run x.c", &argument, 16, b"", b"x.c: not built\n"),
-        row(b"run no.c", &text, 6, b"", b"no.c: absent\n"),
-        row(b"run x.c no.c", &text, 6, b"", b"no.c: absent\n"),
-        row(b"run", &text, 2, b"", b"usage\n"),
-        row(b"vc", &text, 2, b"", b"usage\n"),
-        row(b"run -x.c", &text, 2, b"", b"usage\n"),
-        row(b"run x.c x", &text, 2, b"", b"usage\n"),
+        refusal(b"run x.c", &only, 5, b"vl: 41 Unresolved x 0\n"),
+        refusal(b"run x.c", &no_main, 5, b"vl: 43 NoMain\n"),
+        refusal(b"run x.c", &argument, 16, b"x.c: not built\n"),
+        refusal(b"run no.c", &text, 6, b"no.c: absent\n"),
+        refusal(b"run x.c no.c", &text, 6, b"no.c: absent\n"),
+        refusal(b"run", &text, 2, b"usage\n"),
+        refusal(b"vc", &text, 2, b"usage\n"),
+        refusal(b"run -x.c", &text, 2, b"usage\n"),
+        refusal(b"run x.c x", &text, 2, b"usage\n"),
     ];
     for row in rows {
-        check(&rt, row, NONE, false)?;
+        let outcome = result_of(rt.alloc(), row.line, row.sources, row.fails)?;
+        assert_eq!(rt; outcome.status, row.status);
+        assert_eq!(rt; outcome.out.as_slice(), row.out);
+        assert_eq!(rt; outcome.err.as_slice(), row.err);
+        assert_eq!(rt; outcome.executable.is_some(), row.built);
     }
     Ok(())
 }
@@ -193,44 +247,52 @@ fn refused(rt: HostRuntime) -> Result<(), Fail> {
 #[test]
 fn shared(rt: HostRuntime) -> Result<(), Fail> {
     let sums = [
-        (
-            b"a.c".as_slice(),
-            b"extern int y; int x; void main(void){ x = y + 1; write(1, \"abcdef\", x); exits(0); }".as_slice(),
-        ),
+        (b"a.c".as_slice(), SUM),
         (b"b.c".as_slice(), b"int y = 2;".as_slice()),
     ];
-    check(&rt, row(b"run a.c b.c", &sums, 0, b"abc", b""), NONE, true)?;
-    check(&rt, row(b"run b.c a.c", &sums, 0, b"abc", b""), NONE, true)?;
     let types = [
-        (b"a.c".as_slice(), b"int x; void main(void){ exits(0); }".as_slice()),
+        (b"a.c".as_slice(), INT),
         (b"b.c".as_slice(), b"extern long x;".as_slice()),
     ];
-    check(&rt, row(b"run a.c b.c", &types, 5, b"", b"vl: 42 Disagree x 0 1\n"), NONE, false)?;
     let twice = [
-        (b"a.c".as_slice(), b"int x = 1; void main(void){ exits(0); }".as_slice()),
+        (b"a.c".as_slice(), ONE),
         (b"b.c".as_slice(), b"int x = 1;".as_slice()),
     ];
-    check(&rt, row(b"run a.c b.c", &twice, 5, b"", b"vl: 40 Twice x 0 1\n"), NONE, false)
+    let rows = [
+        run(b"run a.c b.c", &sums, 0, b"abc", b""),
+        run(b"run b.c a.c", &sums, 0, b"abc", b""),
+        refusal(b"run a.c b.c", &types, 5, b"vl: 42 Disagree x 0 1\n"),
+        refusal(b"run a.c b.c", &twice, 5, b"vl: 40 Twice x 0 1\n"),
+    ];
+    for row in rows {
+        let outcome = result_of(rt.alloc(), row.line, row.sources, row.fails)?;
+        assert_eq!(rt; outcome.status, row.status);
+        assert_eq!(rt; outcome.out.as_slice(), row.out);
+        assert_eq!(rt; outcome.err.as_slice(), row.err);
+        assert_eq!(rt; outcome.executable.is_some(), row.built);
+    }
+    Ok(())
 }
 
 // A variable without a value in two files, and with one in a third, is one variable.
 #[test]
 fn common(rt: HostRuntime) -> Result<(), Fail> {
     let sources = [
-        (
-            b"a.c".as_slice(),
-            b"int x; void main(void){ write(1, \"abc\", x); exits(0); }".as_slice(),
-        ),
+        (b"a.c".as_slice(), INT),
         (b"b.c".as_slice(), b"int x;".as_slice()),
         (b"c.c".as_slice(), b"int x = 1;".as_slice()),
     ];
-    let lines = [
-        b"run a.c b.c c.c".as_slice(),
-        b"run c.c b.c a.c".as_slice(),
-        b"run b.c c.c a.c".as_slice(),
+    let rows = [
+        run(b"run a.c b.c c.c", &sources, 0, b"a", b""),
+        run(b"run c.c b.c a.c", &sources, 0, b"a", b""),
+        run(b"run b.c c.c a.c", &sources, 0, b"a", b""),
     ];
-    for line in lines {
-        check(&rt, row(line, &sources, 0, b"a", b""), NONE, true)?;
+    for row in rows {
+        let outcome = result_of(rt.alloc(), row.line, row.sources, row.fails)?;
+        assert_eq!(rt; outcome.status, row.status);
+        assert_eq!(rt; outcome.out.as_slice(), row.out);
+        assert_eq!(rt; outcome.err.as_slice(), row.err);
+        assert_eq!(rt; outcome.executable.is_some(), row.built);
     }
     Ok(())
 }
@@ -239,13 +301,23 @@ fn common(rt: HostRuntime) -> Result<(), Fail> {
 #[test]
 fn many(rt: HostRuntime) -> Result<(), Fail> {
     let sources = [
-        (b"a.c".as_slice(), b"void main(void){ exits(0); }".as_slice()),
+        (b"a.c".as_slice(), INT),
         (b"b.c".as_slice(), b"int x;".as_slice()),
     ];
     let most = b"run a.c b.c b.c b.c b.c b.c b.c b.c b.c b.c b.c b.c b.c b.c b.c b.c";
-    check(&rt, row(most, &sources, 0, b"", b""), NONE, true)?;
     let more = b"run a.c b.c b.c b.c b.c b.c b.c b.c b.c b.c b.c b.c b.c b.c b.c b.c b.c";
-    check(&rt, row(more, &sources, 2, b"", b"usage\n"), NONE, false)
+    let rows = [
+        run(most, &sources, 0, b"", b""),
+        refusal(more, &sources, 2, b"usage\n"),
+    ];
+    for row in rows {
+        let outcome = result_of(rt.alloc(), row.line, row.sources, row.fails)?;
+        assert_eq!(rt; outcome.status, row.status);
+        assert_eq!(rt; outcome.out.as_slice(), row.out);
+        assert_eq!(rt; outcome.err.as_slice(), row.err);
+        assert_eq!(rt; outcome.executable.is_some(), row.built);
+    }
+    Ok(())
 }
 
 // An executable with this magic number, this size of the text in its header, these instructions, and

@@ -50,7 +50,7 @@ pub fn suite<I: Source, O: Sink, E: Sink, F: Files>(
     // and the line are that answer's. What `run` puts and takes is what the machine of the executable does.
     ensures answer { (a : Answer) × (result ≡ status a)
         × SuiteDoes (doing I.did O.did F.did) (objects input.old out.old files.old) (objects input.new out.new files.new)
-            (λ bytes b. TellsRun (I.left input.old) (I.left input.new) (O.sofar out.old) (O.sofar out.new) bytes b) words.now a
+        (λ bytes b. TellsRun (I.left input.old) (I.left input.new) (O.sofar out.old) (O.sofar out.new) bytes b) words.now a
         × Tells E.sofar E.faults err.old err.new (message a) }
 
     // What is written keeps the meaning of the files and their modules, and the answer is that of its run.
