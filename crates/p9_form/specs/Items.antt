@@ -112,9 +112,9 @@ main_tree at ss =
 abbrev pub main_size : List Statement → ℕ
 main_size ss = 7 + statements_size ss
 
--- what follows the declarations before `main`; without it there is no more
+-- what follows the declarations before `main`; without it, the declarations behind follow at once
 abbrev pub main_trees : ℕ → Option (List Statement) → List Declaration → SyntaxRow
-main_trees at None after = none
+main_trees at None after = declaration_trees at after none
 main_trees at (Some ss) after = more (main_tree at ss) (declaration_trees (at + main_size ss) after none)
 
 abbrev pub items_of : File → SyntaxRow

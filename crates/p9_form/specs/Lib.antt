@@ -1,3 +1,5 @@
 pub mod Items
+pub mod Reading
+pub mod Scanning
 pub mod Spelling
 pub mod Sharing

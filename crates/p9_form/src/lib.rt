@@ -4,7 +4,9 @@
 #![tactic(auto)]
 
 mod file;
+mod parse;
 mod reader;
+mod token;
 
 pub use file::{
     Declaration, Declarations, File, FileList, First, Operand, Statement, Statements,

@@ -1,0 +1,123 @@
+-- How the parts of a file are read from the front of its tokens.
+use Rattle.std.specs.Prelude.{ℕ, Bool, true, false, ◌==◌, nat_le, if◌then◌else◌, List, [], ◌∷◌, Option, Some, None, codes}
+use Rattle.std.specs.List.{list_all}
+use Rattle.p9_lang.specs.Tokens.{Token, Word, Number, Character, Text, Mark, End}
+use Rattle.p9_lang.specs.Form.{is_among, same_name, is_text_byte}
+use Rattle.p9_form.specs.declared.file.Operand.{Operand}
+use Rattle.p9_form.specs.declared.file.Operand.TheVariants as operand
+use Rattle.p9_form.specs.declared.file.Statement.{Statement}
+use Rattle.p9_form.specs.declared.file.Statement.TheVariants.{Assign, Write, Exits}
+
+-- what was read, and the tokens that are left
+pub record Got (A : Type 0) : Type 0 where
+  pub value : A
+  pub rest : List Token
+
+abbrev pub got : {A : Type 0} → A → List Token → Got A
+got x ts = record { value = x; rest = ts }
+
+-- a step, and then the next one
+unfoldable pub after : {A B : Type 0} → Option A → (A → Option B) → Option B
+after None next = None
+after (Some x) next = next x
+
+-- One token
+
+abbrev pub is_that_mark : ℕ → Token → Bool
+is_that_mark c (Mark (b ∷ [])) = b == c
+is_that_mark c _ = false
+
+unfoldable pub read_mark : ℕ → List Token → Option (List Token)
+read_mark c [] = None
+read_mark c (t ∷ ts) = if is_that_mark c t then Some ts else None
+
+unfoldable pub read_word : List Token → Option (Got (List ℕ))
+read_word (Word x ∷ ts) = Some (got x ts)
+read_word _ = None
+
+-- a number that fits an int
+unfoldable pub read_number : List Token → Option (Got ℕ)
+read_number (Number value false false ∷ ts) = if nat_le value 2147483647 then Some (got value ts) else None
+read_number _ = None
+
+unfoldable pub read_text : List Token → Option (Got (List ℕ))
+read_text (Text bytes ∷ ts) = if list_all is_text_byte bytes then Some (got bytes ts) else None
+read_text _ = None
+
+-- Statements
+
+unfoldable pub read_operand : List (List ℕ) → List Token → Option (Got Operand)
+read_operand names (Word x ∷ ts) = if is_among names x then Some (got (operand.Variable x) ts) else None
+read_operand names (Number value false false ∷ ts) =
+    if nat_le value 2147483647 then Some (got (operand.Number value) ts) else None
+read_operand names _ = None
+
+-- a sum's second operand, if there is one
+unfoldable pub read_right : List (List ℕ) → List Token → Option (Got (Option Operand))
+read_right names ts = by (read_mark 43 ts)
+  where
+    by : Option (List Token) → Option (Got (Option Operand))
+    by None = Some (got None ts)
+    by (Some rest) = after (read_operand names rest) (λ r. Some (got (Some r.value) r.rest))
+
+unfoldable pub read_assignment : List (List ℕ) → List ℕ → List Token → Option (Got Statement)
+read_assignment names x ts =
+    after (read_operand names ts) (λ l.
+    after (read_right names l.rest) (λ r.
+    after (read_mark 59 r.rest) (λ rest.
+    Some (got (Assign x l.value r.value) rest))))
+
+-- a word, as `void`
+unfoldable pub read_this : List ℕ → List Token → Option (List Token)
+read_this w (Word x ∷ ts) = if same_name w x then Some ts else None
+read_this w _ = None
+
+-- the number 1
+unfoldable pub read_one : List Token → Option (List Token)
+read_one (Number value false false ∷ ts) = if value == 1 then Some ts else None
+read_one _ = None
+
+-- the text and the count of `write`, from its first comma on
+unfoldable pub read_piece : List (List ℕ) → List Token → Option (Got Statement)
+read_piece names ts =
+    after (read_mark 44 ts) (λ ts.
+    after (read_text ts) (λ text.
+    after (read_mark 44 text.rest) (λ ts.
+    after (read_operand names ts) (λ count.
+    Some (got (Write text.value count.value) count.rest)))))
+
+-- `write` from its number on, up to its last parenthesis
+unfoldable pub read_write : List (List ℕ) → List Token → Option (Got Statement)
+read_write names ts = after (read_one ts) (λ ts. read_piece names ts)
+
+-- what `exits` is given
+unfoldable pub read_exits : List Token → Option (Got Statement)
+read_exits (Text bytes ∷ ts) = if list_all is_text_byte bytes then Some (got (Exits (Some bytes)) ts) else None
+read_exits (Number value false false ∷ ts) = if value == 0 then Some (got (Exits None) ts) else None
+read_exits _ = None
+
+-- a call of the function with this name, from behind the parenthesis up to the last one
+unfoldable pub read_call : List (List ℕ) → List ℕ → List Token → Option (Got Statement)
+read_call names f ts =
+    if same_name f (codes "write") then read_write names ts
+    else (if same_name f (codes "exits") then read_exits ts else None)
+
+-- a call from its parenthesis on
+unfoldable pub read_arguments : List (List ℕ) → List ℕ → List Token → Option (Got Statement)
+read_arguments names f ts =
+    after (read_mark 40 ts) (λ ts.
+    after (read_call names f ts) (λ call.
+    after (read_mark 41 call.rest) (λ ts.
+    after (read_mark 59 ts) (λ ts.
+    Some (got call.value ts)))))
+
+-- an assignment from behind its name on
+unfoldable pub read_behind : List (List ℕ) → List ℕ → List Token → Option (Got Statement)
+read_behind names x ts = by (read_mark 61 ts)
+  where
+    by : Option (List Token) → Option (Got Statement)
+    by None = read_arguments names x ts
+    by (Some rest) = if is_among names x then read_assignment names x rest else None
+
+unfoldable pub read_statement : List (List ℕ) → List Token → Option (Got Statement)
+read_statement names ts = after (read_word ts) (λ x. read_behind names x.value x.rest)

@@ -1,0 +1,5 @@
+// From tokens to a file.
+mod cursor;
+mod names;
+mod statements;
+mod text;
