@@ -1,10 +1,13 @@
 -- How the parts of a file are read from the front of its tokens.
-use Rattle.std.specs.Prelude.{ℕ, Bool, true, false, ◌==◌, nat_le, if◌then◌else◌, List, [], ◌∷◌, Option, Some, None, codes}
+use Rattle.std.specs.Prelude.{ℕ, Bool, true, false, not, ◌&&◌, ◌==◌, nat_le, if◌then◌else◌, List, [], ◌∷◌, Option, Some, None, codes}
 use Rattle.std.specs.List.{list_all}
 use Rattle.p9_lang.specs.Tokens.{Token, Word, Number, Character, Text, Mark, End}
-use Rattle.p9_lang.specs.Form.{is_among, same_name, is_text_byte}
+use Rattle.p9_lang.specs.Form.{is_among, same_name, is_text_byte, is_variable_name}
 use Rattle.p9_form.specs.declared.file.Operand.{Operand}
 use Rattle.p9_form.specs.declared.file.Operand.TheVariants as operand
+use Rattle.p9_form.specs.declared.file.First.{First}
+use Rattle.p9_form.specs.declared.file.First.TheVariants as first
+use Rattle.p9_form.specs.declared.file.Declaration.{Declaration}
 use Rattle.p9_form.specs.declared.file.Statement.{Statement}
 use Rattle.p9_form.specs.declared.file.Statement.TheVariants.{Assign, Write, Exits}
 
@@ -67,10 +70,14 @@ read_assignment names x ts =
     after (read_mark 59 r.rest) (λ rest.
     Some (got (Assign x l.value r.value) rest))))
 
+abbrev pub is_that_word : List ℕ → Token → Bool
+is_that_word w (Word x) = same_name w x
+is_that_word w _ = false
+
 -- a word, as `void`
 unfoldable pub read_this : List ℕ → List Token → Option (List Token)
-read_this w (Word x ∷ ts) = if same_name w x then Some ts else None
-read_this w _ = None
+read_this w [] = None
+read_this w (t ∷ ts) = if is_that_word w t then Some ts else None
 
 -- the number 1
 unfoldable pub read_one : List Token → Option (List Token)
@@ -121,3 +128,57 @@ read_behind names x ts = by (read_mark 61 ts)
 
 unfoldable pub read_statement : List (List ℕ) → List Token → Option (Got Statement)
 read_statement names ts = after (read_word ts) (λ x. read_behind names x.value x.rest)
+
+-- Declarations
+
+-- int or long
+unfoldable pub read_type : List Token → Option (Got Bool)
+read_type (Word x ∷ ts) =
+    if same_name (codes "int") x then Some (got false ts)
+    else (if same_name (codes "long") x then Some (got true ts) else None)
+read_type _ = None
+
+-- a name that is declared here, and wasn't before
+unfoldable pub read_new_name : List (List ℕ) → List Token → Option (Got (List ℕ))
+read_new_name names (Word x ∷ ts) = if is_variable_name x && not (is_among names x) then Some (got x ts) else None
+read_new_name names _ = None
+
+-- what a declaration without `extern` says of the first value
+unfoldable pub read_value : List Token → Option (Got First)
+read_value ts = by (read_mark 61 ts)
+  where
+    by : Option (List Token) → Option (Got First)
+    by None = Some (got first.Zero ts)
+    by (Some rest) = after (read_number rest) (λ n. Some (got (first.Number n.value) n.rest))
+
+unfoldable pub read_first : (is_extern : Bool) → List Token → Option (Got First)
+read_first true ts = Some (got first.Extern ts)
+read_first false ts = read_value ts
+
+-- a declaration from its type on
+unfoldable pub read_typed : List (List ℕ) → (is_extern : Bool) → List Token → Option (Got Declaration)
+read_typed names is_extern ts =
+    after (read_type ts) (λ t.
+    after (read_new_name names t.rest) (λ x.
+    after (read_first is_extern x.rest) (λ f.
+    after (read_mark 59 f.rest) (λ ts.
+    Some (got (record { name = x.value; is_long = t.value; first = f.value }) ts)))))
+
+unfoldable pub read_declaration : List (List ℕ) → List Token → Option (Got Declaration)
+read_declaration names ts = by (read_this (codes "extern") ts)
+  where
+    by : Option (List Token) → Option (Got Declaration)
+    by None = read_typed names false ts
+    by (Some rest) = read_typed names true rest
+
+-- `void main(void) {`
+unfoldable pub read_name_of_main : List Token → Option (List Token)
+read_name_of_main ts = after (read_this (codes "void") ts) (λ ts. read_this (codes "main") ts)
+
+unfoldable pub read_head : List Token → Option (List Token)
+read_head ts =
+    after (read_name_of_main ts) (λ ts.
+    after (read_mark 40 ts) (λ ts.
+    after (read_this (codes "void") ts) (λ ts.
+    after (read_mark 41 ts) (λ ts.
+    read_mark 123 ts))))

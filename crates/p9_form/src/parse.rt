@@ -1,5 +1,6 @@
 // From tokens to a file.
 mod cursor;
+mod declarations;
 mod names;
 mod statements;
 mod text;

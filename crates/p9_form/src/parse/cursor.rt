@@ -1,13 +1,17 @@
 // A parser's place among the tokens.
 ghost use Rattle.std.specs.Prelude.{◌≡◌, List, [], ◌∷◌, Some, None, true, false, MatchOption, IfOk, IfErr};
+ghost use Rattle.p9_lang.specs.Form.{same_name};
 ghost use Rattle.p9_form.specs.Scanning.{token_seen, seen};
-ghost use Rattle.p9_form.specs.Reading.{got, is_that_mark, read_mark, read_word, read_number, read_text};
+ghost use Rattle.p9_form.specs.Reading.{got, is_that_mark, read_mark, read_word, read_number, read_text, is_that_word, read_this};
 ghost use Rattle.p9_form.specs.declared.parse.cursor.Refusal.TheVariants.{NoForm};
 
 use crate::token::Token;
 use crate::parse::text::is_text;
 use p9_base::{Bytes, Name, NoMemory};
 use std::marker::Model;
+
+/// The largest int.
+pub(crate) const LARGEST: u32 = 0x7fff_ffff;
 
 /// Why a file is not read.
 #[derive(Clone, Copy, Debug, PartialEq, Eq, Drop)]
@@ -48,6 +52,23 @@ fn is_mark(token: &Token, c: u8) -> bool
 {
     match token {
         Token::Mark(found) => *found == c,
+        _ => false,
+    }
+}
+
+/// Whether the name is this word.
+#[tactic(auto, using(crate::proofs::ParseSteps::same_bytes))]
+pub(crate) fn is_word(name: &Name, word: &[u8]) -> bool
+    ensures { result ≡ same_name word.now name.now }
+{
+    word == name.list.as_slice()
+}
+
+fn is_that_word(token: &Token, word: &[u8]) -> bool
+    ensures { result ≡ is_that_word word.now (token_seen token.now) }
+{
+    match token {
+        Token::Word(name) => is_word(name, word),
         _ => false,
     }
 }
@@ -120,6 +141,46 @@ impl<'a> Cursor<'a> {
         match self.next() {
             Some(Token::Text(text)) if is_text(text) => Ok(text),
             _ => Err(Refusal::NoForm),
+        }
+    }
+
+    /// Passes a number that fits an int.
+    #[tactic(auto, unfolding(crate::specs::Reading::read_number))]
+    pub(crate) fn number(&mut self) -> Result<u32, Refusal>
+        ensures ok { IfOk result (λ value. read_number self.old ≡ Some (got value self.new)) }
+        ensures err { IfErr result (λ e. e ≡ NoForm → read_number self.old ≡ None) }
+    {
+        match self.next() {
+            Some(Token::Number(value)) if *value <= LARGEST => Ok(*value),
+            _ => Err(Refusal::NoForm),
+        }
+    }
+
+    /// Passes the word, if it is next.
+    #[tactic(auto, unfolding(crate::specs::Reading::read_this))]
+    pub(crate) fn takes_word(&mut self, word: &[u8]) -> bool
+        ensures yes { result ≡ true → read_this word.now self.old ≡ Some self.new }
+        ensures no { result ≡ false → read_this word.now self.old ≡ None }
+        ensures stays { result ≡ false → self.new ≡ self.old }
+    {
+        if let [first, rest @ ..] = self.left {
+            if is_that_word(first, word) {
+                self.left = rest;
+                return true;
+            }
+        }
+        false
+    }
+
+    /// Passes the word.
+    pub(crate) fn this(&mut self, word: &[u8]) -> Result<(), Refusal>
+        ensures ok { IfOk result (λ _. read_this word.now self.old ≡ Some self.new) }
+        ensures err { IfErr result (λ e. e ≡ NoForm → read_this word.now self.old ≡ None) }
+    {
+        if self.takes_word(word) {
+            Ok(())
+        } else {
+            Err(Refusal::NoForm)
         }
     }
 }

@@ -4,14 +4,12 @@ ghost use Rattle.p9_form.specs.Reading.{got, read_operand, read_right, read_assi
 ghost use Rattle.p9_form.specs.declared.parse.cursor.Refusal.TheVariants.{NoForm};
 
 use crate::file::{Operand, Statement};
-use crate::parse::cursor::{Cursor, Refusal};
+use crate::parse::cursor::{Cursor, LARGEST, Refusal};
 use crate::parse::names::Names;
 use crate::parse::text::is_text;
 use crate::token::Token;
 use p9_base::Name;
 use std::alloc::Global;
-
-const LARGEST: u32 = 0x7fff_ffff;
 
 // A variable that is declared, or a number.
 #[tactic(auto, unfolding(crate::specs::Reading::read_operand))]
