@@ -1,1 +1,3 @@
 pub mod ParseSteps
+pub mod ParseMarks
+pub mod ParseStatements

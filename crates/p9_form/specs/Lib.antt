@@ -1,4 +1,5 @@
 pub mod Items
+pub mod Phrases
 pub mod Reading
 pub mod Scanning
 pub mod Spelling
