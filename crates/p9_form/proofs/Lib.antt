@@ -1,3 +1,4 @@
 pub mod ParseSteps
 pub mod ParseMarks
 pub mod ParseStatements
+pub mod ParseDeclarations

@@ -14,10 +14,13 @@ pub record Stepped {A B : Type 0} (o : Option A) (next : A → Option B) (y : B)
   pub first : o ≡ Some value
   pub second : next value ≡ Some y
 
-pub some_after : {A B : Type 0} (o : Option A) (next : A → Option B) (y : B) → after o next ≡ Some y → Stepped o next y
+some_by : {A B : Type 0} (o : Option A) (next : A → Option B) (y : B) → after o next ≡ Some y → Stepped o next y
 unfolding after
-some_after None next y e = cc
-some_after (Some x) next y e = record { value = x; first = refl; second = e }
+some_by None next y e = cc
+some_by (Some x) next y e = record { value = x; first = refl; second = e }
+
+pub some_after : {A B : Type 0} {o : Option A} {next : A → Option B} {y : B} → after o next ≡ Some y → Stepped o next y
+some_after {o} {next} {y} e = some_by o next y e
 
 -- what a test lets through
 pub passed : {A : Type 0} (b : Bool) (x y : A) → (if b then Some x else None) ≡ Some y → IsTrue b × (x ≡ y)

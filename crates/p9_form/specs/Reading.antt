@@ -55,13 +55,13 @@ read_operand names (Number value false false ∷ ts) =
     if nat_le value 2147483647 then Some (got (operand.Number value) ts) else None
 read_operand names _ = None
 
--- a sum's second operand, if there is one
+-- a sum's second operand, if there is a plus sign
+abbrev pub right_behind : List (List ℕ) → List Token → Option (List Token) → Option (Got (Option Operand))
+right_behind names ts None = Some (got None ts)
+right_behind names ts (Some rest) = after (read_operand names rest) (λ r. Some (got (Some r.value) r.rest))
+
 unfoldable pub read_right : List (List ℕ) → List Token → Option (Got (Option Operand))
-read_right names ts = by (read_mark 43 ts)
-  where
-    by : Option (List Token) → Option (Got (Option Operand))
-    by None = Some (got None ts)
-    by (Some rest) = after (read_operand names rest) (λ r. Some (got (Some r.value) r.rest))
+read_right names ts = right_behind names ts (read_mark 43 ts)
 
 unfoldable pub read_assignment : List (List ℕ) → List ℕ → List Token → Option (Got Statement)
 read_assignment names x ts =
@@ -118,13 +118,13 @@ read_arguments names f ts =
     after (read_mark 59 ts) (λ ts.
     Some (got call.value ts)))))
 
--- an assignment from behind its name on
+-- an assignment or a call from behind its name on
+abbrev pub behind_name : List (List ℕ) → List ℕ → List Token → Option (List Token) → Option (Got Statement)
+behind_name names x ts None = read_arguments names x ts
+behind_name names x ts (Some rest) = if is_among names x then read_assignment names x rest else None
+
 unfoldable pub read_behind : List (List ℕ) → List ℕ → List Token → Option (Got Statement)
-read_behind names x ts = by (read_mark 61 ts)
-  where
-    by : Option (List Token) → Option (Got Statement)
-    by None = read_arguments names x ts
-    by (Some rest) = if is_among names x then read_assignment names x rest else None
+read_behind names x ts = behind_name names x ts (read_mark 61 ts)
 
 unfoldable pub read_statement : List (List ℕ) → List Token → Option (Got Statement)
 read_statement names ts = after (read_word ts) (λ x. read_behind names x.value x.rest)
@@ -144,12 +144,12 @@ read_new_name names (Word x ∷ ts) = if is_variable_name x && not (is_among nam
 read_new_name names _ = None
 
 -- what a declaration without `extern` says of the first value
+abbrev pub value_behind : List Token → Option (List Token) → Option (Got First)
+value_behind ts None = Some (got first.Zero ts)
+value_behind ts (Some rest) = after (read_number rest) (λ n. Some (got (first.Number n.value) n.rest))
+
 unfoldable pub read_value : List Token → Option (Got First)
-read_value ts = by (read_mark 61 ts)
-  where
-    by : Option (List Token) → Option (Got First)
-    by None = Some (got first.Zero ts)
-    by (Some rest) = after (read_number rest) (λ n. Some (got (first.Number n.value) n.rest))
+read_value ts = value_behind ts (read_mark 61 ts)
 
 unfoldable pub read_first : (is_extern : Bool) → List Token → Option (Got First)
 read_first true ts = Some (got first.Extern ts)
@@ -164,12 +164,12 @@ read_typed names is_extern ts =
     after (read_mark 59 f.rest) (λ ts.
     Some (got (record { name = x.value; is_long = t.value; first = f.value }) ts)))))
 
+abbrev pub declaration_behind : List (List ℕ) → List Token → Option (List Token) → Option (Got Declaration)
+declaration_behind names ts None = read_typed names false ts
+declaration_behind names ts (Some rest) = read_typed names true rest
+
 unfoldable pub read_declaration : List (List ℕ) → List Token → Option (Got Declaration)
-read_declaration names ts = by (read_this (codes "extern") ts)
-  where
-    by : Option (List Token) → Option (Got Declaration)
-    by None = read_typed names false ts
-    by (Some rest) = read_typed names true rest
+read_declaration names ts = declaration_behind names ts (read_this (codes "extern") ts)
 
 -- `void main(void) {`
 unfoldable pub read_name_of_main : List Token → Option (List Token)
