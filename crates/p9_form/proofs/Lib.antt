@@ -2,3 +2,5 @@ pub mod ParseSteps
 pub mod ParseMarks
 pub mod ParseStatements
 pub mod ParseDeclarations
+pub mod ParseBodies
+pub mod ParseDeclared
