@@ -4,3 +4,4 @@ pub mod ParseStatements
 pub mod ParseDeclarations
 pub mod ParseBodies
 pub mod ParseDeclared
+pub mod ParseFiles

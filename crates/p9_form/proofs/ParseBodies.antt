@@ -28,10 +28,12 @@ tokens_one_more (t ∷ ss) s rest =
     ∙ ap (λ v. statement_tokens t ++ v) (tokens_one_more ss s rest)
     ∙ sym (append_assoc (statement_tokens t) (statements_tokens ss) (statement_tokens s ++ rest))
 
-pub one_more : (names : List (List ℕ)) (whole : List Token) (ss : List Statement) (left : List Token) (s : Statement) (next : List Token) → AreRead names whole ss left → read_statement names left ≡ Some (got s next) → AreRead names whole (ss ++ s ∷ []) next
-one_more names whole ss left s next h e =
-    let sound = statement_sound names left (got s next) e in
-    record { fit = fit_one_more names ss s h.fit sound.0; is = h.is ∙ ap (λ v. statements_tokens ss ++ v) sound.1 ∙ sym (tokens_one_more ss s next) }
+pub one_more : (names : List (List ℕ)) (whole : List Token) (ss : List Statement) (left : List Token) (s : Statement) (next here : List Token) (more : List Statement) → AreRead names whole ss left → here ≡ left → read_statement names here ≡ Some (got s next) → more ≡ ss ++ s ∷ [] → AreRead names whole more next
+one_more names whole ss left s next here more h stays e pushed =
+    let sound = statement_sound names here (got s next) e in
+    let longer : AreRead names whole (ss ++ s ∷ []) next =
+    record { fit = fit_one_more names ss s h.fit sound.0; is = h.is ∙ ap (λ v. statements_tokens ss ++ v) (sym stays ∙ sound.1) ∙ sym (tokens_one_more ss s next) } in
+    subst (λ list. AreRead names whole list next) (sym pushed) longer
 
 begins_with_word : (s : Statement) → 0 < length (statement_tokens s)
 begins_with_word (Assign x left right) = omega arith
@@ -82,9 +84,12 @@ refused_by names left rest (s ∷ ss) m r b =
     cc
 
 pub body_refused : (names : List (List ℕ)) (whole : List Token) (ss : List Statement) (left : List Token) → AreRead names whole ss left → read_mark 125 left ≡ None → read_statement names left ≡ None → HasNoBody names whole
-body_refused names whole ss left h m r ts rest b =
-    let behind = behind_by names ss ts left rest h.fit b.fits (sym h.is ∙ b.is) in
-    refused_by names left rest behind.statements m r behind.body
+body_refused names whole ss left h m r = record { no = by }
+  where
+    by : (ts : List Statement) (rest : List Token) → IsBody names whole ts rest → ⊥
+    by ts rest b =
+        let behind = behind_by names ss ts left rest h.fit b.fits (sym h.is ∙ b.is) in
+        refused_by names left rest behind.statements m r behind.body
 
 -- a body can be read in one way
 pub same_body : (names : List (List ℕ)) (ss ts : List Statement) (rest next : List Token) → StatementsFit names ss → StatementsFit names ts → statements_tokens ss ++ (mark 125 ∷ rest) ≡ statements_tokens ts ++ (mark 125 ∷ next) → (ss ≡ ts) × (rest ≡ next)

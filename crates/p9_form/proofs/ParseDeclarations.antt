@@ -11,6 +11,11 @@ use Rattle.p9_form.specs.Phrases.{mark, type_token, FirstFits, DeclarationFits, 
 use Rattle.p9_form.proofs.ParseSteps.{after_some}
 use Rattle.p9_form.proofs.ParseMarks.{Stepped, some_after, passed, equal_names, mark_sound, mark_exact, number_sound, number_exact, this_sound, this_exact}
 
+same_got : {A : Type 0} (x y : A) (ts us : List Token) → Some (got x ts) ≡ Some (got y us) → (x ≡ y) × (ts ≡ us)
+same_got x y ts us e =
+    let same : got x ts ≡ got y us = cc in
+    (ap (λ g. g.value) same, ap (λ g. g.rest) same)
+
 -- The type and the name
 
 type_by : (b c : Bool) (x : List ℕ) (ts : List Token) (g : Got Bool) → same_name (codes "int") x ≡ b → same_name (codes "long") x ≡ c → (if b then Some (got false ts) else (if c then Some (got true ts) else None)) ≡ Some g → Word x ∷ ts ≡ type_token g.value ∷ g.rest
@@ -127,24 +132,27 @@ declaration_exact names d rest h = exact_by names d.name d.is_long d.first rest 
 abbrev DeclarationIs : List (List ℕ) → List Token → Got Declaration → Type 0
 DeclarationIs names ts g = DeclarationFits names g.value × (ts ≡ declaration_tokens g.value ++ g.rest)
 
+extern_of : (names : List (List ℕ)) (name : List ℕ) (is_long : Bool) (f : First) (ts us behind rest : List Token) → IsNew names name → ts ≡ type_token is_long ∷ us → us ≡ Word name ∷ behind → read_first true behind ≡ Some (got f (mark 59 ∷ rest)) → DeclarationIs names (Word (codes "extern") ∷ ts) (got (record { name = name; is_long = is_long; first = f }) rest)
+unfolding read_first
+extern_of names name is_long f ts us behind rest n t u e =
+    let same = same_got first.Extern f behind (mark 59 ∷ rest) e in
+    let tokens : ts ≡ type_token is_long ∷ Word name ∷ mark 59 ∷ rest =
+    t ∙ ap (λ v. type_token is_long ∷ v) (u ∙ ap (λ v. Word name ∷ v) same.1) in
+    subst (λ f. DeclarationIs names (Word (codes "extern") ∷ ts) (got (record { name = name; is_long = is_long; first = f }) rest)) same.0 ((n, tt), ap (λ v. Word (codes "extern") ∷ v) tokens)
+
 extern_by : (names : List (List ℕ)) (ts : List Token) (g : Got Declaration) → read_typed names true ts ≡ Some g → DeclarationIs names (Word (codes "extern") ∷ ts) g
-unfolding read_typed read_first
+unfolding read_typed
 extern_by names ts g e =
     let t = some_after e in
     let x = some_after t.second in
     let f = some_after x.second in
     let m = some_after f.second in
     let name = name_sound names t.value.rest x.value x.first in
-    let value = f.first in
     let last = m.second in
-    let declaration : Declaration = record { name = x.value.value; is_long = t.value.value; first = first.Extern } in
-    let is_extern : f.value.value ≡ first.Extern = cc in
-    let behind : x.value.rest ≡ f.value.rest = cc in
-    let made : got (record { name = x.value.value; is_long = t.value.value; first = f.value.value }) m.value ≡ g = cc in
-    let same : got declaration m.value ≡ g = ap (λ v. got (record { name = x.value.value; is_long = t.value.value; first = v }) m.value) (sym is_extern) ∙ made in
-    let tokens : ts ≡ type_token t.value.value ∷ Word x.value.value ∷ mark 59 ∷ m.value =
-    type_sound ts t.value t.first ∙ ap (λ v. type_token t.value.value ∷ v) (name.1 ∙ ap (λ v. Word x.value.value ∷ v) (behind ∙ mark_sound 59 f.value.rest m.value m.first)) in
-    subst (λ g. DeclarationIs names (Word (codes "extern") ∷ ts) g) same ((name.0, tt), ap (λ v. Word (codes "extern") ∷ v) tokens)
+    let same : got (record { name = x.value.value; is_long = t.value.value; first = f.value.value }) m.value ≡ g = cc in
+    let first : read_first true x.value.rest ≡ Some (got f.value.value (mark 59 ∷ m.value)) = f.first ∙ ap (λ rest. Some (got f.value.value rest)) (mark_sound 59 f.value.rest m.value m.first) in
+    subst (λ g. DeclarationIs names (Word (codes "extern") ∷ ts) g) same
+    (extern_of names x.value.value t.value.value f.value.value ts t.value.rest x.value.rest m.value name.0 (type_sound ts t.value t.first) name.1 first)
 
 plain_of : (names : List (List ℕ)) (name : List ℕ) (is_long : Bool) (f : First) (ts rest : List Token) → IsNew names name → IsValue f → ts ≡ type_token is_long ∷ Word name ∷ (value_tokens f ++ mark 59 ∷ rest) → DeclarationIs names ts (got (record { name = name; is_long = is_long; first = f }) rest)
 plain_of names name is_long first.Extern ts rest n h e = absurd h

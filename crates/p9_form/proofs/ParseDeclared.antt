@@ -1,12 +1,12 @@
 -- Declarations one after the other.
 use Rattle.std.proofs.Common.{◌≡◌, ℕ, zero, suc, ◌+◌, ◌<◌, ◌≤◌, Bool, true, false, List, [], ◌∷◌, ◌++◌, length, length-append, Option, Some, None, refl, ap, ◌∙◌, sym, subst, append_assoc, arith}
-use Rattle.p9_lang.specs.Tokens.{Token, Word, Mark}
+use Rattle.p9_lang.specs.Tokens.{Token, Word, Mark, End}
 use Rattle.p9_form.specs.declared.file.First.{First}
 use Rattle.p9_form.specs.declared.file.First.TheVariants as first
 use Rattle.p9_form.specs.declared.file.Declaration.{Declaration}
 use Rattle.p9_form.specs.Reading.{Got, got, read_declaration}
 use Rattle.p9_form.specs.Phrases.{mark, declaration_tokens, declarations_tokens, DeclarationFits, DeclarationsFit, declared}
-use Rattle.p9_form.specs.Found.{begins_declaration, AreDeclared, HasNoDeclarations}
+use Rattle.p9_form.specs.Found.{begins_declaration, is_end, AreDeclared, HasNoDeclarations}
 use Rattle.p9_form.proofs.ParseDeclarations.{declaration_sound, declaration_exact}
 
 -- declarations that were read, what is left, and the names that are declared by then
@@ -33,14 +33,16 @@ tokens_one_more (e ∷ ds) d rest =
     ∙ ap (λ v. declaration_tokens e ++ v) (tokens_one_more ds d rest)
     ∙ sym (append_assoc (declaration_tokens e) (declarations_tokens ds) (declaration_tokens d ++ rest))
 
-pub one_more_noted : (names : List (List ℕ)) (whole : List Token) (ds : List Declaration) (left : List Token) (later : List (List ℕ)) (d : Declaration) (next : List Token) → AreNoted names whole ds left later → read_declaration later left ≡ Some (got d next) → AreNoted names whole (ds ++ d ∷ []) next (d.name ∷ later)
-one_more_noted names whole ds left later d next h e =
+pub one_more_noted : (names : List (List ℕ)) (whole : List Token) (ds : List Declaration) (left : List Token) (later : List (List ℕ)) (d : Declaration) (next : List Token) (name : List ℕ) (more : List Declaration) (now : List (List ℕ)) → AreNoted names whole ds left later → read_declaration later left ≡ Some (got d next) → name ≡ d.name → more ≡ ds ++ d ∷ [] → now ≡ name ∷ later → AreNoted names whole more next now
+one_more_noted names whole ds left later d next name more now h e copy pushed added =
     let sound = declaration_sound later left (got d next) e in
+    let longer : AreNoted names whole (ds ++ d ∷ []) next now =
     record {
       fit = fit_one_more names ds d h.fit (subst (λ n. DeclarationFits n d) h.named sound.0);
       is = h.is ∙ ap (λ v. declarations_tokens ds ++ v) sound.1 ∙ sym (tokens_one_more ds d next);
-      named = ap (λ n. d.name ∷ n) h.named ∙ sym (named_one_more names ds d);
-    }
+      named = added ∙ ap (λ n. n ∷ later) copy ∙ ap (λ n. d.name ∷ n) h.named ∙ sym (named_one_more names ds d);
+    } in
+    subst (λ list. AreNoted names whole list next now) (sym pushed) longer
 
 some_by : (name : List ℕ) (is_long : Bool) (f : First) → 0 < length (declaration_tokens (record { name = name; is_long = is_long; first = f }))
 some_by name is_long first.Extern = omega arith
@@ -103,9 +105,12 @@ refused_by names left rest (d ∷ ds) m r b =
     cc
 
 pub declarations_refused : (names : List (List ℕ)) (whole : List Token) (ds : List Declaration) (left : List Token) (later : List (List ℕ)) → AreNoted names whole ds left later → begins_declaration left ≡ true → read_declaration later left ≡ None → HasNoDeclarations names whole
-declarations_refused names whole ds left later h m r es rest b =
-    let behind = behind_by names ds es left rest h.fit b.fit (sym h.is ∙ b.is) b.no_more in
-    refused_by later left rest behind.declarations m r (subst (λ n. AreDeclared n left behind.declarations rest) (sym h.named) behind.found)
+declarations_refused names whole ds left later h m r = record { no = by }
+  where
+    by : (es : List Declaration) (rest : List Token) → AreDeclared names whole es rest → ⊥
+    by es rest b =
+        let behind = behind_by names ds es left rest h.fit b.fit (sym h.is ∙ b.is) b.no_more in
+        refused_by later left rest behind.declarations m r (subst (λ n. AreDeclared n left behind.declarations rest) (sym h.named) behind.found)
 
 -- declarations can be read in one way
 pub same_declarations : (names : List (List ℕ)) (ts : List Token) (ds es : List Declaration) (rest next : List Token) → AreDeclared names ts ds rest → AreDeclared names ts es next → (ds ≡ es) × (rest ≡ next)
@@ -124,3 +129,17 @@ same_declarations names ts ds es rest next a b = by names ds es a.fit b.fit (sym
         let heads : d ≡ e = same.0 in
         let tails : ds ≡ es = others.0 in
         (cc, others.1)
+
+pub end_is : (ts : List Token) → is_end ts ≡ true → ts ≡ End ∷ []
+end_is (End ∷ []) e = refl
+end_is _ e = cc
+
+begins_at_end : (ts : List Token) → is_end ts ≡ true → begins_declaration ts ≡ false
+unfolding begins_declaration
+begins_at_end ts e = ap begins_declaration (end_is ts e)
+
+-- at the end no declaration is read
+pub none_at_end : (names : List (List ℕ)) (ts : List Token) (ds : List Declaration) (rest : List Token) → AreDeclared names ts ds rest → is_end ts ≡ true → ds ≡ []
+none_at_end names ts [] rest a e = refl
+none_at_end names ts (d ∷ ds) rest a e =
+    absurd (stands d (declarations_tokens ds ++ rest) ts (sym (append_assoc (declaration_tokens d) (declarations_tokens ds) rest) ∙ sym a.is) (begins_at_end ts e))

@@ -12,8 +12,8 @@ pub record IsBody (names : List (List ℕ)) (ts : List Token) (ss : List Stateme
   pub fits : StatementsFit names ss
   pub is : ts ≡ statements_tokens ss ++ (mark 125 ∷ rest)
 
-abbrev pub HasNoBody : List (List ℕ) → List Token → Type 0
-HasNoBody names ts = (ss : List Statement) (rest : List Token) → IsBody names ts ss rest → ⊥
+pub record HasNoBody (names : List (List ℕ)) (ts : List Token) : Type 0 where
+  pub no : (ss : List Statement) (rest : List Token) → IsBody names ts ss rest → ⊥
 
 -- whether a declaration begins here
 unfoldable pub begins_declaration : List Token → Bool
@@ -27,8 +27,8 @@ pub record AreDeclared (names : List (List ℕ)) (ts : List Token) (ds : List De
   pub is : ts ≡ declarations_tokens ds ++ rest
   pub no_more : begins_declaration rest ≡ false
 
-abbrev pub HasNoDeclarations : List (List ℕ) → List Token → Type 0
-HasNoDeclarations names ts = (ds : List Declaration) (rest : List Token) → AreDeclared names ts ds rest → ⊥
+pub record HasNoDeclarations (names : List (List ℕ)) (ts : List Token) : Type 0 where
+  pub no : (ds : List Declaration) (rest : List Token) → AreDeclared names ts ds rest → ⊥
 
 abbrev pub is_end : List Token → Bool
 is_end (End ∷ []) = true
@@ -39,12 +39,12 @@ abbrev pub IsMainPart : List (List ℕ) → List Token → Option (List Statemen
 IsMainPart names ts None rest = (is_end ts ≡ true) × (rest ≡ ts)
 IsMainPart names ts (Some ss) rest = StatementsFit names ss × (ts ≡ main_tokens (Some ss) ++ rest)
 
-abbrev pub HasNoMainPart : List (List ℕ) → List Token → Type 0
-HasNoMainPart names ts = (main : Option (List Statement)) (rest : List Token) → IsMainPart names ts main rest → ⊥
+pub record HasNoMainPart (names : List (List ℕ)) (ts : List Token) : Type 0 where
+  pub no : (main : Option (List Statement)) (rest : List Token) → IsMainPart names ts main rest → ⊥
 
 pub record IsWritten (ts : List Token) (file : File) : Type 0 where
   pub fits : FileFits file
   pub is : ts ≡ written file
 
-abbrev pub IsNotWritten : List Token → Type 0
-IsNotWritten ts = (file : File) → IsWritten ts file → ⊥
+pub record IsNotWritten (ts : List Token) : Type 0 where
+  pub no : (file : File) → IsWritten ts file → ⊥

@@ -1,17 +1,26 @@
 // A parser's place among the tokens.
-ghost use Rattle.std.specs.Prelude.{◌≡◌, List, [], ◌∷◌, Some, None, true, false, MatchOption, IfOk, IfErr};
+ghost use Rattle.std.specs.Prelude.{◌≡◌, ◌||◌, codes, List, [], ◌∷◌, Some, None, true, false, MatchOption, IfOk, IfErr};
 ghost use Rattle.p9_lang.specs.Form.{same_name};
 ghost use Rattle.p9_form.specs.Scanning.{token_seen, seen};
 ghost use Rattle.p9_form.specs.Reading.{got, is_that_mark, read_mark, read_word, read_number, read_text, is_that_word, read_this};
+ghost use Rattle.p9_form.specs.Found.{begins_declaration, is_end};
 ghost use Rattle.p9_form.specs.declared.parse.cursor.Refusal.TheVariants.{NoForm};
 
 use crate::token::Token;
 use crate::parse::text::is_text;
 use p9_base::{Bytes, Name, NoMemory};
+use std::alloc::AllocFailed;
 use std::marker::Model;
 
 /// The largest int.
 pub(crate) const LARGEST: u32 = 0x7fff_ffff;
+
+// `extern`, `int` or `long`
+fn begins_declaration(token: &Token) -> bool
+    ensures { result ≡ is_that_word (codes "extern") (token_seen token.now) || (is_that_word (codes "int") (token_seen token.now) || is_that_word (codes "long") (token_seen token.now)) }
+{
+    is_that_word(token, b"extern") || is_that_word(token, b"int") || is_that_word(token, b"long")
+}
 
 /// Why a file is not read.
 #[derive(Clone, Copy, Debug, PartialEq, Eq, Drop)]
@@ -27,6 +36,17 @@ impl From<NoMemory> for Refusal {
     ghost from_gives = { λ _ e. e ≡ Refusal.Memory };
 
     fn from(_: NoMemory) -> Refusal {
+        Refusal::Memory
+    }
+}
+
+impl<T: Drop> From<AllocFailed<T>> for Refusal {
+    ghost use Rattle.std.specs.Prelude.{◌≡◌};
+    ghost use Rattle.p9_form.specs.declared.parse.cursor.Refusal.{Refusal};
+
+    ghost from_gives = { λ _ e. e ≡ Refusal.Memory };
+
+    fn from(_: AllocFailed<T>) -> Refusal {
         Refusal::Memory
     }
 }
@@ -181,6 +201,27 @@ impl<'a> Cursor<'a> {
             Ok(())
         } else {
             Err(Refusal::NoForm)
+        }
+    }
+
+    /// Whether a declaration begins here.
+    #[tactic(auto, unfolding(crate::specs::Found::begins_declaration))]
+    pub(crate) fn begins_declaration(&self) -> bool
+        ensures { result ≡ begins_declaration self.now }
+    {
+        match self.left {
+            [first, ..] => begins_declaration(first),
+            [] => false,
+        }
+    }
+
+    /// Whether nothing is left but the end.
+    pub(crate) fn at_end(&self) -> bool
+        ensures { result ≡ is_end self.now }
+    {
+        match self.left {
+            [Token::End] => true,
+            _ => false,
         }
     }
 }

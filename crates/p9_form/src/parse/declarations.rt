@@ -2,9 +2,11 @@
 ghost use Rattle.std.specs.Prelude.{◌≡◌, ◌&&◌, not, None, Some, IfOk, IfErr, codes};
 ghost use Rattle.p9_lang.specs.Form.{is_variable_name, is_among};
 ghost use Rattle.p9_form.specs.Reading.{got, read_type, read_new_name, read_value, read_first, read_typed, read_declaration};
+ghost use Rattle.p9_form.specs.Phrases.{declared};
+ghost use Rattle.p9_form.specs.Found.{AreDeclared, HasNoDeclarations};
 ghost use Rattle.p9_form.specs.declared.parse.cursor.Refusal.TheVariants.{NoForm};
 
-use crate::file::{Declaration, First};
+use crate::file::{Declaration, Declarations, First};
 use crate::parse::cursor::{Cursor, Refusal, is_word};
 use crate::parse::names::{Names, is_variable_name};
 use crate::token::Token;
@@ -93,4 +95,24 @@ fn declaration(alloc: Global, names: &Names, cursor: &mut Cursor) -> Result<Decl
         return typed(alloc, names, true, cursor);
     }
     typed(alloc, names, false, cursor)
+}
+
+/// As many declarations as there are. Their names are added.
+#[tactic(auto, using(crate::proofs::ParseDeclared::none_noted, crate::proofs::ParseDeclared::one_more_noted, crate::proofs::ParseDeclared::declaration_shortens, crate::proofs::ParseDeclared::declarations_end, crate::proofs::ParseDeclared::declarations_refused))]
+pub(crate) fn declarations(
+    alloc: Global,
+    names: &mut Names,
+    cursor: &mut Cursor,
+) -> Result<Declarations, Refusal>
+    ensures ok { IfOk result (λ list. AreDeclared names.old cursor.old list cursor.new) }
+    ensures names { IfOk result (λ list. names.new ≡ declared names.old list) }
+    ensures err { IfErr result (λ e. e ≡ NoForm → HasNoDeclarations names.old cursor.old) }
+{
+    let mut list = Vec::new(alloc);
+    'each: while cursor.begins_declaration() {
+        let declaration = declaration(alloc, names, cursor)?;
+        names.add(declaration.name.copied(alloc)?)?;
+        list.push(declaration)?;
+    }
+    Ok(Declarations { list })
 }

@@ -1,9 +1,10 @@
 // Statements.
 ghost use Rattle.std.specs.Prelude.{◌≡◌, None, Some, IfOk, IfErr};
 ghost use Rattle.p9_form.specs.Reading.{got, read_operand, read_right, read_assignment, read_one, read_text, read_piece, read_write, read_exits, read_call, read_arguments, read_behind, read_statement};
+ghost use Rattle.p9_form.specs.Found.{IsBody, HasNoBody};
 ghost use Rattle.p9_form.specs.declared.parse.cursor.Refusal.TheVariants.{NoForm};
 
-use crate::file::{Operand, Statement};
+use crate::file::{Operand, Statement, Statements};
 use crate::parse::cursor::{Cursor, LARGEST, Refusal};
 use crate::parse::names::Names;
 use crate::parse::text::is_text;
@@ -175,4 +176,22 @@ pub(crate) fn statement(
 {
     let word = cursor.word()?;
     behind(alloc, names, word, cursor)
+}
+
+/// Statements up to the closing brace.
+#[tactic(auto, using(crate::proofs::ParseBodies::none_read, crate::proofs::ParseBodies::one_more, crate::proofs::ParseBodies::statement_shortens, crate::proofs::ParseBodies::body_ends, crate::proofs::ParseBodies::body_refused))]
+pub(crate) fn statements(
+    alloc: Global,
+    names: &Names,
+    cursor: &mut Cursor,
+) -> Result<Statements, Refusal>
+    ensures ok { IfOk result (λ list. IsBody names.now cursor.old list cursor.new) }
+    ensures err { IfErr result (λ e. e ≡ NoForm → HasNoBody names.now cursor.old) }
+{
+    let mut list = Vec::new(alloc);
+    'each: while !cursor.takes(b'}') {
+        let next = statement(alloc, names, cursor)?;
+        list.push(next)?;
+    }
+    Ok(Statements { list })
 }
