@@ -137,3 +137,7 @@ no_end names ts t1 t2 t3 ds es main n a m b e = record { no = by }
         let same = same_declarations names t2 es f.after t3 (End ∷ []) b last in
         let ends : is_end t3 ≡ true = ap is_end same.1 in
         cc
+
+-- no names are declared at first
+pub from_start : (names : List (List ℕ)) (begun ts t1 : List Token) (ds : List Declaration) → names ≡ [] → begun ≡ ts → AreDeclared names begun ds t1 → AreDeclared [] ts ds t1
+from_start names begun ts t1 ds n e a = subst (λ ts. AreDeclared [] ts ds t1) e (subst (λ names. AreDeclared names begun ds t1) n a)
