@@ -5,3 +5,4 @@ pub mod ParseDeclarations
 pub mod ParseBodies
 pub mod ParseDeclared
 pub mod ParseFiles
+pub mod ParseTrees
