@@ -6,3 +6,5 @@ pub mod ParseBodies
 pub mod ParseDeclared
 pub mod ParseFiles
 pub mod ParseTrees
+pub mod ParseItems
+pub mod ParseSizes
