@@ -1,6 +1,11 @@
 // From tokens to a file.
-ghost use Rattle.std.specs.Prelude.{◌≡◌, ◌≤◌, Some, None, IfOk, IfErr};
-ghost use Rattle.p9_form.specs.Scanning.{seen};
+ghost use Rattle.std.specs.Prelude.{◌≡◌, ◌≤◌, Some, None, IfOk, IfErr, IfSome, IsSome};
+ghost use Rattle.p9_lang.specs.Trees.{SyntaxRow};
+ghost use Rattle.p9_lang.specs.Tokens.{file_tokens};
+ghost use Rattle.p9_lang.specs.Form.{IsFile};
+ghost use Rattle.p9_form.specs.Items.{items_of};
+ghost use Rattle.p9_form.specs.Sharing.{IsSmall};
+ghost use Rattle.p9_form.specs.Scanning.{seen, weights};
 ghost use Rattle.p9_form.specs.Reading.{read_name_of_main, read_head};
 ghost use Rattle.p9_form.specs.Found.{IsMainPart, HasNoMainPart, IsWritten, IsNotWritten};
 ghost use Rattle.p9_form.specs.declared.parse.cursor.Refusal.TheVariants.{NoForm};
@@ -17,6 +22,7 @@ use crate::parse::declarations::declarations;
 use crate::parse::names::Names;
 use crate::parse::statements::statements;
 use crate::token::Token;
+use p9_base::NoMemory;
 use std::alloc::Global;
 
 #[tactic(auto, using(crate::proofs::ParseSteps::after_some, crate::proofs::ParseSteps::after_none), unfolding(crate::specs::Reading::read_name_of_main))]
@@ -72,4 +78,20 @@ fn file(alloc: Global, tokens: &[Token]) -> Result<File, Refusal>
         main,
         after,
     })
+}
+
+/// Reads tokens as a file; none where they aren't those of a file of the form.
+pub(crate) fn parse(alloc: Global, tokens: &[Token]) -> Result<Option<File>, NoMemory>
+    ensures written { IfOk result (λ answer. IfSome answer (λ file. IsFile (items_of file) × (file_tokens (items_of file) ≡ seen tokens.now))) }
+
+    // Every file of the form is read.
+    ensures complete { (items : SyntaxRow) → IsFile items → file_tokens items ≡ seen tokens.now → IfOk result (λ answer. IsSome answer) }
+
+    ensures small { IfOk result (λ answer. IfSome answer (λ file. weights (seen tokens.now) ≤ 65536 → IsSmall file)) }
+{
+    match file(alloc, tokens) {
+        Ok(file) => Ok(Some(file)),
+        Err(Refusal::NoForm) => Ok(None),
+        Err(Refusal::Memory) => Err(NoMemory),
+    }
 }
