@@ -8,3 +8,11 @@ pub mod ParseFiles
 pub mod ParseTrees
 pub mod ParseItems
 pub mod ParseSizes
+pub mod Formed
+pub mod ScanCases
+pub mod ScanNumbers
+pub mod ScanTexts
+pub mod ScanTokens
+pub mod ScanLoop
+pub mod ScanCode
+pub mod ParseForms

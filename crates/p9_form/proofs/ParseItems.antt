@@ -322,7 +322,18 @@ items_are names none h = record { before = []; main = None; after = []; before_f
 items_are names (more (node (kind.Function spec) at parts) others) h = with_main names (node (kind.Function spec) at parts) others h.0 h.1
 items_are names (more first others) h = with_declaration names first others h.0 (items_are (names_after first names) others h.1)
 
+-- the file with these items
+pub record FileOf (items : SyntaxRow) : Type 0 where
+  pub file : File
+  pub fits : FileFits file
+  pub is : file_tokens items ≡ written file
+
+pub file_of : (items : SyntaxRow) → IsFile items → FileOf items
+file_of items h =
+    let f = items_are [] items h.form in
+    record { file = record { before = f.before; main = f.main; after = f.after }; fits = (f.before_fits, f.main_fits); is = f.is }
+
 pub no_file : (ts : List Token) → IsNotWritten ts → (items : SyntaxRow) → IsFile items → file_tokens items ≡ ts → ⊥
 no_file ts n items h e =
-    let f = items_are [] items h.form in
-    n.no (record { before = f.before; main = f.main; after = f.after }) (record { fits = (f.before_fits, f.main_fits); is = sym e ∙ f.is })
+    let f = file_of items h in
+    n.no f.file (record { fits = f.fits; is = sym e ∙ f.is })

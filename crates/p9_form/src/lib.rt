@@ -6,9 +6,8 @@
 mod file;
 mod parse;
 mod reader;
+mod scan;
 mod token;
 
-pub use file::{
-    Declaration, Declarations, File, FileList, First, Operand, Statement, Statements,
-};
+pub use file::{Declaration, Declarations, File, FileList, First, Operand, Statement, Statements};
 pub use reader::read_file;

@@ -11,7 +11,7 @@ use Rattle.p9_abs.specs.declared.modules.Body.TheVariants.{Declared, Used, Text,
 use Rattle.p9_abs.specs.declared.modules.Symbol.{Symbol}
 use Rattle.p9_abs.specs.declared.modules.AModule.{AModule}
 use Rattle.p9_form.specs.declared.file.Statement.{Statement}
-use Rattle.p9_form.specs.declared.file.Statement.TheVariants.{Assign, Write, Exits}
+use Rattle.p9_form.specs.declared.file.Statement.TheVariants.{Write, Exits}
 use Rattle.p9_form.specs.declared.file.First.{First}
 use Rattle.p9_form.specs.declared.file.First.TheVariants as first
 use Rattle.p9_form.specs.declared.file.Declaration.{Declaration}

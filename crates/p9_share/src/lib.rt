@@ -3,5 +3,6 @@
 #![tactic(auto)]
 
 mod joining;
+mod symbols;
 
 pub use joining::join;

@@ -3,5 +3,11 @@
 #![tactic(auto)]
 
 mod building;
+mod code;
+mod commons;
+mod layout;
+mod places;
+mod sizes;
+mod words;
 
 pub use building::compile;

@@ -1,0 +1,7 @@
+//! Tests of which modules are valid, and of how valid modules join.
+#![tactic(auto)]
+
+#[cfg(test)]
+mod samples;
+#[cfg(test)]
+mod tests;

@@ -1,0 +1,5 @@
+pub mod Whole
+pub mod Fresh
+pub mod Lasts
+pub mod Names
+pub mod Pieces

@@ -1,0 +1,13 @@
+//! Object files. For now only the test whether a module is valid.
+#![tactic(auto)]
+
+mod data;
+mod distinct;
+mod forms;
+mod functions;
+mod numbers;
+mod operands;
+mod spelling;
+mod validity;
+
+pub use validity::{all_numbered, all_valid, valid};

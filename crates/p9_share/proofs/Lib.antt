@@ -1,0 +1,6 @@
+pub mod Names
+pub mod Valid
+pub mod Within
+pub mod Mains
+pub mod Joined
+pub mod Together
