@@ -1,5 +1,7 @@
 -- The tokens of each file of the form are such as the scanner finds.
-use Rattle.std.proofs.Common.{◌≡◌, ℕ, ◌≤◌, Bool, true, false, List, [], ◌∷◌, ◌++◌, Option, Some, None, refl, subst, sym, arith}
+use Rattle.std.proofs.Common.{◌≡◌, ℕ, ◌≤◌, Bool, true, false, List, [], ◌∷◌, ◌++◌, Option, Some, None, Result, Ok, Err, IsSome, IfOk, refl, ap, ◌∙◌, subst, sym, arith}
+use Rattle.std.specs.Prelude.{IsSomeAnd}
+use Rattle.p9_base.specs.declared.bytes.NoMemory.{NoMemory}
 use Rattle.p9_lang.specs.Trees.{SyntaxRow}
 use Rattle.p9_lang.specs.Tokens.{Token, Word, Number, Character, Text, Mark, End, file_tokens}
 use Rattle.p9_lang.specs.Form.{IsFile}
@@ -11,7 +13,9 @@ use Rattle.p9_form.specs.declared.file.First.{First}
 use Rattle.p9_form.specs.declared.file.First.TheVariants as first
 use Rattle.p9_form.specs.declared.file.Declaration.{Declaration}
 use Rattle.p9_form.specs.declared.file.File.{File}
-use Rattle.p9_form.specs.Scanning.{IsFormToken, AreFormTokens}
+use Rattle.p9_form.specs.declared.token.Token as code
+use Rattle.p9_form.specs.Spelling.{Spells, HasForm, HasNoForm}
+use Rattle.p9_form.specs.Scanning.{seen, IsFormToken, AreFormTokens}
 use Rattle.p9_form.specs.Phrases.{mark, operand_token, right_tokens, exit_token, statement_tokens, statements_tokens, OperandFits, RightFits, StatementFits, StatementsFit, declaration_tokens, declarations_tokens, FirstFits, DeclarationFits, DeclarationsFit, declared, main_tokens, MainFits, written, FileFits}
 use Rattle.p9_form.proofs.ParseItems.{FileOf, file_of}
 
@@ -87,3 +91,30 @@ pub form_tokens : (items : SyntaxRow) → IsFile items → AreFormTokens (file_t
 form_tokens items h =
     let f = file_of items h in
     subst AreFormTokens (sym f.is) (file_tokens_by f.file f.fits)
+
+-- Bytes without the form
+
+none_is_none : {A : Type 0} (answer : Option A) (P : A → Type 0) → answer ≡ None → IsSomeAnd answer P → ⊥
+none_is_none None P e h = absurd h
+none_is_none (Some x) P e h = cc
+
+pub not_scanned : (bytes slice : List ℕ) (answer : Option (List code.Token)) → slice ≡ bytes → ((ts : List Token) → AreFormTokens ts → Spells ts slice → IsSomeAnd answer (λ tokens. seen tokens ≡ ts)) → answer ≡ None → HasNoForm bytes
+not_scanned bytes slice answer same exact none items h =
+    none_is_none answer (λ tokens. seen tokens ≡ file_tokens items) none
+    (exact (file_tokens items) (form_tokens items h.file) (subst (λ bytes. Spells (file_tokens items) bytes) (sym same) h.spelled))
+
+tokens_are : (answer : Option (List code.Token)) (tokens : List code.Token) (ts : List Token) → answer ≡ Some tokens → IsSomeAnd answer (λ tokens. seen tokens ≡ ts) → seen tokens ≡ ts
+tokens_are None tokens ts e h = cc
+tokens_are (Some found) tokens ts e h =
+    let same : found ≡ tokens = cc in
+    subst (λ tokens. seen tokens ≡ ts) same h
+
+not_none : (result : Result (Option File) NoMemory) → result ≡ Ok None → IfOk result (λ answer. IsSome answer) → ⊥
+not_none (Ok None) e h = cc
+not_none (Ok (Some file)) e h = cc
+not_none (Err fault) e h = cc
+
+pub not_parsed : (bytes slice : List ℕ) (answer : Option (List code.Token)) (tokens list : List code.Token) (result : Result (Option File) NoMemory) → slice ≡ bytes → ((ts : List Token) → AreFormTokens ts → Spells ts slice → IsSomeAnd answer (λ tokens. seen tokens ≡ ts)) → answer ≡ Some tokens → list ≡ tokens → ((items : SyntaxRow) → IsFile items → file_tokens items ≡ seen list → IfOk result (λ answer. IsSome answer)) → result ≡ Ok None → HasNoForm bytes
+not_parsed bytes slice answer tokens list result same exact found listed complete none items h =
+    let read = exact (file_tokens items) (form_tokens items h.file) (subst (λ bytes. Spells (file_tokens items) bytes) (sym same) h.spelled) in
+    not_none result none (complete items h.file (sym (ap seen listed ∙ tokens_are answer tokens (file_tokens items) found read)))
