@@ -9,7 +9,6 @@ ghost use Rattle.p9_vi.specs.Steps.{Plain, PlainRun};
 
 use crate::hazards::reads_pair;
 use crate::machine::{Machine, TEXT_START};
-use p9_base::get32;
 use p9_r3k::{Effect, Ending, HaltCause, Inst, decode};
 
 impl Machine {
@@ -128,7 +127,7 @@ impl Machine {
 }
 
 // The word of the four bytes from `at` on, the highest first, by one read of four bytes.
-#[tactic(auto, using(crate::proofs::Clear::word_part))]
+#[tactic(auto, using(crate::proofs::Clear::word_is_read))]
 #[inline(always)]
 fn word_read(bytes: &[u8], at: usize) -> u32
     requires { at + 4 ≤ length bytes.now }
@@ -136,5 +135,5 @@ fn word_read(bytes: &[u8], at: usize) -> u32
 {
     let mut word = [0; 4];
     word.copy_from_slice(&bytes[at..at + 4]);
-    get32(&word, 0)
+    u32::from_be_bytes(word)
 }
