@@ -17,7 +17,7 @@ use Rattle.p9_suite.specs.Answers.{status}
 use Rattle.p9_suite.specs.RunCommand.{ReadAll, StopsAt, StopsIn, IsProgram, HaveFault, IsUnbuilt, output_name, wrote, WritesAndSimulates, WriteCalls, BuildCalls, RunCalls, RunDoes}
 use Rattle.p9_suite.specs.RunContent.{AreFiles, IsFirst, IsAbsent, IsFormless, TellsRun, HasRun, HasFault, RunTells}
 use Rattle.p9_suite.specs.ViCommand.{read_file}
-use Rattle.p9_suite.specs.Suite.{doing, objects}
+use Rattle.p9_suite.specs.Suite.{doing, objects, IsRefused}
 
 -- what calls on a store mean
 abbrev pub Means : {F : Type 0} → (F → Option Held) → (F → ℕ) → (F → FileCall → F → Type 0) → Type 0
@@ -29,14 +29,16 @@ pub ended_not : (printed : List ℕ) (n : ℕ) → (0 ≡ n → ⊥) → (1 ≡ 
 ended_not [] n zero_not one_not e = zero_not e
 ended_not (c ∷ cs) n zero_not one_not e = one_not e
 
--- the statuses of refusals before the write
-abbrev pub IsRefused : ℕ → Type 0
-IsRefused s = (s ≡ 5) ⊎ (s ≡ 6) ⊎ (s ≡ 16)
+pub not_refused : (s : ℕ) → (s ≡ 2 → ⊥) → (s ≡ 5 → ⊥) → (s ≡ 6 → ⊥) → (s ≡ 16 → ⊥) → IsRefused s → ⊥
+not_refused s two five six sixteen (inl e) = two e
+not_refused s two five six sixteen (inr (inl e)) = five e
+not_refused s two five six sixteen (inr (inr (inl e))) = six e
+not_refused s two five six sixteen (inr (inr (inr e))) = sixteen e
 
-not_refused : (s : ℕ) → (s ≡ 5 → ⊥) → (s ≡ 6 → ⊥) → (s ≡ 16 → ⊥) → IsRefused s → ⊥
-not_refused s five six sixteen (inl e) = five e
-not_refused s five six sixteen (inr (inl e)) = six e
-not_refused s five six sixteen (inr (inr e)) = sixteen e
+pub ended_not_refused : (printed : List ℕ) → IsRefused (status (Ended printed)) → ⊥
+ended_not_refused printed r =
+    not_refused (status (Ended printed)) (ended_not printed 2 (λ e. cc) (λ e. cc)) (ended_not printed 5 (λ e. cc) (λ e. cc))
+    (ended_not printed 6 (λ e. cc) (λ e. cc)) (ended_not printed 16 (λ e. cc) (λ e. cc)) r
 
 -- Names but the executable's
 
@@ -258,6 +260,7 @@ module _ {I O F : Type 0} (takes : I → TakeCall → I → Type 0) (puts : O �
   pub record RunHolds (old new : Objects I O F) (names : List (List ℕ)) (left later out put : Option (List ℕ)) (a : Answer) : Type 0 where
     pub no_usage : status a ≡ 2 → ⊥
     pub unwritten : IsRefused (status a) → held new.files ≡ held old.files
+    pub quiet : IsRefused (status a) → Quiet old new
     pub others : OthersKept (held old.files) (held new.files)
     pub tells : (before : Held) → held old.files ≡ Some before → IsSomeAnd (held new.files) (λ after. RunTells names a before after left later out put)
 
@@ -269,24 +272,28 @@ module _ {I O F : Type 0} (takes : I → TakeCall → I → Type 0) (puts : O �
   stop_holds old new names left later out put (Absent word) s q = record {
     no_usage = λ e. cc;
     unwritten = λ _. s.same;
+    quiet = λ _. (s.input, s.out);
     others = kept_same (held old.files) (held new.files) s.same;
     tells = λ before at. at_same old new before (λ after. RunTells names (Absent word) before after left later out put) s.same at (s.tells before at, q.0, q.1);
   }
   stop_holds old new names left later out put (NotBuilt word) s q = record {
     no_usage = λ e. cc;
     unwritten = λ _. s.same;
+    quiet = λ _. (s.input, s.out);
     others = kept_same (held old.files) (held new.files) s.same;
     tells = λ before at. at_same old new before (λ after. RunTells names (NotBuilt word) before after left later out put) s.same at (s.tells before at, q.0, q.1);
   }
   stop_holds old new names left later out put (StoreFault word) s q = record {
     no_usage = λ e. cc;
     unwritten = λ _. s.same;
+    quiet = λ _. (s.input, s.out);
     others = kept_same (held old.files) (held new.files) s.same;
     tells = λ before at. at_same old new before (λ after. RunTells names (StoreFault word) before after left later out put) s.same at q;
   }
   stop_holds old new names left later out put Memory s q = record {
     no_usage = λ e. cc;
     unwritten = λ _. s.same;
+    quiet = λ _. (s.input, s.out);
     others = kept_same (held old.files) (held new.files) s.same;
     tells = λ before at. at_same old new before (λ after. RunTells names Memory before after left later out put) s.same at q;
   }
@@ -307,47 +314,49 @@ module _ {I O F : Type 0} (takes : I → TakeCall → I → Type 0) (puts : O �
 
   -- of files that have a fault
   fault_holds : (old new : Objects I O F) (names : List (List ℕ)) (files : List File) (left later out put : Option (List ℕ)) (why : LinkFault) (a : Answer)
-      → held new.files ≡ held old.files → ((before : Held) → held old.files ≡ Some before → AreFiles before names files) → HaveFault files why → (status a ≡ 2 → ⊥)
+      → held new.files ≡ held old.files → Quiet old new → ((before : Held) → held old.files ≡ Some before → AreFiles before names files) → HaveFault files why → (status a ≡ 2 → ⊥)
       → ((before after : Held) → HasFault names why before → RunTells names a before after left later out put)
       → RunHolds old new names left later out put a
-  fault_holds old new names files left later out put why a same there h two f = record {
+  fault_holds old new names files left later out put why a same still_there there h two f = record {
     no_usage = two;
     unwritten = λ _. same;
+    quiet = λ _. still_there;
     others = kept_same (held old.files) (held new.files) same;
     tells = λ before at. at_same old new before (λ after. RunTells names a before after left later out put) same at (f before before (files, there before at, h));
   }
 
   unbuilt_holds : (old new : Objects I O F) (names : List (List ℕ)) (files : List File) (left later out put : Option (List ℕ)) (a : Answer)
-      → held new.files ≡ held old.files → ((before : Held) → held old.files ≡ Some before → AreFiles before names files) → (later ≡ left) × (put ≡ out) → IsUnbuilt files a
+      → held new.files ≡ held old.files → Quiet old new → ((before : Held) → held old.files ≡ Some before → AreFiles before names files) → (later ≡ left) × (put ≡ out) → IsUnbuilt files a
       → RunHolds old new names left later out put a
-  unbuilt_holds old new names files left later out put (Twice x i j) same there q u =
-      fault_holds old new names files left later out put (links.Twice x i j) (Twice x i j) same there u (λ e. cc) (λ before after h. (h, q.0, q.1))
-  unbuilt_holds old new names files left later out put NoMain same there q u =
-      fault_holds old new names files left later out put links.NoMain NoMain same there u (λ e. cc) (λ before after h. (h, q.0, q.1))
-  unbuilt_holds old new names files left later out put (MainType i) same there q u =
-      fault_holds old new names files left later out put (links.MainType i) (MainType i) same there u (λ e. cc) (λ before after h. (h, q.0, q.1))
-  unbuilt_holds old new names files left later out put (Unresolved x i) same there q u =
-      fault_holds old new names files left later out put (links.Unresolved x i) (Unresolved x i) same there u (λ e. cc) (λ before after h. (h, q.0, q.1))
-  unbuilt_holds old new names files left later out put (Disagree x i j) same there q u =
-      fault_holds old new names files left later out put (links.Disagree x i j) (Disagree x i j) same there u (λ e. cc) (λ before after h. (h, q.0, q.1))
-  unbuilt_holds old new names files left later out put Memory same there q u = record {
+  unbuilt_holds old new names files left later out put (Twice x i j) same still_there there q u =
+      fault_holds old new names files left later out put (links.Twice x i j) (Twice x i j) same still_there there u (λ e. cc) (λ before after h. (h, q.0, q.1))
+  unbuilt_holds old new names files left later out put NoMain same still_there there q u =
+      fault_holds old new names files left later out put links.NoMain NoMain same still_there there u (λ e. cc) (λ before after h. (h, q.0, q.1))
+  unbuilt_holds old new names files left later out put (MainType i) same still_there there q u =
+      fault_holds old new names files left later out put (links.MainType i) (MainType i) same still_there there u (λ e. cc) (λ before after h. (h, q.0, q.1))
+  unbuilt_holds old new names files left later out put (Unresolved x i) same still_there there q u =
+      fault_holds old new names files left later out put (links.Unresolved x i) (Unresolved x i) same still_there there u (λ e. cc) (λ before after h. (h, q.0, q.1))
+  unbuilt_holds old new names files left later out put (Disagree x i j) same still_there there q u =
+      fault_holds old new names files left later out put (links.Disagree x i j) (Disagree x i j) same still_there there u (λ e. cc) (λ before after h. (h, q.0, q.1))
+  unbuilt_holds old new names files left later out put Memory same still_there there q u = record {
     no_usage = λ e. cc;
     unwritten = λ _. same;
+    quiet = λ _. still_there;
     others = kept_same (held old.files) (held new.files) same;
     tells = λ before at. at_same old new before (λ after. RunTells names Memory before after left later out put) same at q;
   }
-  unbuilt_holds old new names files left later out put (Ended printed) same there q u = absurd u
-  unbuilt_holds old new names files left later out put Usage same there q u = absurd u
-  unbuilt_holds old new names files left later out put (Absent word) same there q u = absurd u
-  unbuilt_holds old new names files left later out put ReadFault same there q u = absurd u
-  unbuilt_holds old new names files left later out put WriteFault same there q u = absurd u
-  unbuilt_holds old new names files left later out put (StoreFault word) same there q u = absurd u
-  unbuilt_holds old new names files left later out put (Halted cause pc) same there q u = absurd u
-  unbuilt_holds old new names files left later out put (Spent n) same there q u = absurd u
-  unbuilt_holds old new names files left later out put (BadMagic word m) same there q u = absurd u
-  unbuilt_holds old new names files left later out put (ShortFile word need) same there q u = absurd u
-  unbuilt_holds old new names files left later out put (BadSegment word) same there q u = absurd u
-  unbuilt_holds old new names files left later out put (NotBuilt word) same there q u = absurd u
+  unbuilt_holds old new names files left later out put (Ended printed) same still_there there q u = absurd u
+  unbuilt_holds old new names files left later out put Usage same still_there there q u = absurd u
+  unbuilt_holds old new names files left later out put (Absent word) same still_there there q u = absurd u
+  unbuilt_holds old new names files left later out put ReadFault same still_there there q u = absurd u
+  unbuilt_holds old new names files left later out put WriteFault same still_there there q u = absurd u
+  unbuilt_holds old new names files left later out put (StoreFault word) same still_there there q u = absurd u
+  unbuilt_holds old new names files left later out put (Halted cause pc) same still_there there q u = absurd u
+  unbuilt_holds old new names files left later out put (Spent n) same still_there there q u = absurd u
+  unbuilt_holds old new names files left later out put (BadMagic word m) same still_there there q u = absurd u
+  unbuilt_holds old new names files left later out put (ShortFile word need) same still_there there q u = absurd u
+  unbuilt_holds old new names files left later out put (BadSegment word) same still_there there q u = absurd u
+  unbuilt_holds old new names files left later out put (NotBuilt word) same still_there there q u = absurd u
 
   -- of an executable that was written and simulated
   simulated_holds : (old mid new : Objects I O F) (names : List (List ℕ)) (files : List File) (left later out put : Option (List ℕ)) (bytes : List ℕ) (a : Answer) (behind : List Call)
@@ -362,6 +371,7 @@ module _ {I O F : Type 0} (takes : I → TakeCall → I → Type 0) (puts : O �
       record {
         no_usage = two;
         unwritten = λ r. absurd (refused r);
+        quiet = λ r. absurd (refused r);
         others = kept;
         tells = λ before at.
             run_at (held new.files) (stands_wrote (held mid.files) (held new.files) bytes writes before (same ∙ at)) before
@@ -382,6 +392,7 @@ module _ {I O F : Type 0} (takes : I → TakeCall → I → Type 0) (puts : O �
       record {
         no_usage = two;
         unwritten = λ r. absurd (refused r);
+        quiet = λ r. absurd (refused r);
         others = all;
         tells = λ before at. still (held old.files) (held new.files) before at all (λ after. RunTells names a before after left later out put) (λ after _. f before after);
       }
@@ -392,39 +403,39 @@ module _ {I O F : Type 0} (takes : I → TakeCall → I → Type 0) (puts : O �
       → RunHolds old new names left later out put a
   write_holds old mid new names files left later out put bytes (Ended printed) behind same there k t q d w =
       simulated_holds old mid new names files left later out put bytes (Ended printed) behind same there k t d w (ended_not printed 2 (λ e. cc) (λ e. cc))
-      (not_refused (status (Ended printed)) (ended_not printed 5 (λ e. cc) (λ e. cc)) (ended_not printed 6 (λ e. cc) (λ e. cc)) (ended_not printed 16 (λ e. cc) (λ e. cc))) (λ before after h. h)
+      (ended_not_refused printed) (λ before after h. h)
   write_holds old mid new names files left later out put bytes ReadFault behind same there k t q d w =
-      simulated_holds old mid new names files left later out put bytes ReadFault behind same there k t d w (λ e. cc) (not_refused 7 (λ e. cc) (λ e. cc) (λ e. cc)) (λ before after h. h)
+      simulated_holds old mid new names files left later out put bytes ReadFault behind same there k t d w (λ e. cc) (not_refused 7 (λ e. cc) (λ e. cc) (λ e. cc) (λ e. cc)) (λ before after h. h)
   write_holds old mid new names files left later out put bytes WriteFault behind same there k t q d w =
-      simulated_holds old mid new names files left later out put bytes WriteFault behind same there k t d w (λ e. cc) (not_refused 8 (λ e. cc) (λ e. cc) (λ e. cc)) (λ before after h. h)
+      simulated_holds old mid new names files left later out put bytes WriteFault behind same there k t d w (λ e. cc) (not_refused 8 (λ e. cc) (λ e. cc) (λ e. cc) (λ e. cc)) (λ before after h. h)
   write_holds old mid new names files left later out put bytes (Halted cause pc) behind same there k t q d w =
-      simulated_holds old mid new names files left later out put bytes (Halted cause pc) behind same there k t d w (λ e. cc) (not_refused 11 (λ e. cc) (λ e. cc) (λ e. cc)) (λ before after h. h)
+      simulated_holds old mid new names files left later out put bytes (Halted cause pc) behind same there k t d w (λ e. cc) (not_refused 11 (λ e. cc) (λ e. cc) (λ e. cc) (λ e. cc)) (λ before after h. h)
   write_holds old mid new names files left later out put bytes (Spent n) behind same there k t q d w =
-      simulated_holds old mid new names files left later out put bytes (Spent n) behind same there k t d w (λ e. cc) (not_refused 12 (λ e. cc) (λ e. cc) (λ e. cc)) (λ before after h. h)
+      simulated_holds old mid new names files left later out put bytes (Spent n) behind same there k t d w (λ e. cc) (not_refused 12 (λ e. cc) (λ e. cc) (λ e. cc) (λ e. cc)) (λ before after h. h)
   write_holds old mid new names files left later out put bytes (StoreFault word) behind same there k t q d w =
       let e : Did (doing takes puts stores) mid (OnFiles (wrote bytes (Err fault.Failed)) ∷ []) new = subst (λ (x : List Call). Did (doing takes puts stores) mid x new) w.1 d in
       let quiet = q (quiet_one mid new (wrote bytes (Err fault.Failed)) e) in
       unsimulated_holds old mid new names left later out put (StoreFault word) same
       (kept_wrote (held mid.files) (held new.files) bytes (Err fault.Failed) (wrote_says mid new bytes (Err fault.Failed) [] e))
-      (λ e. cc) (not_refused 9 (λ e. cc) (λ e. cc) (λ e. cc)) (λ before after. quiet)
+      (λ e. cc) (not_refused 9 (λ e. cc) (λ e. cc) (λ e. cc) (λ e. cc)) (λ before after. quiet)
   write_holds old mid new names files left later out put bytes Memory behind same there k t q d (inl w) =
       let e : Did (doing takes puts stores) mid [] new = subst (λ (x : List Call). Did (doing takes puts stores) mid x new) w d in
       let quiet = q (quiet_none mid new e) in
       unsimulated_holds old mid new names left later out put Memory same
       (kept_same (held mid.files) (held new.files) (ap (λ (x : Objects I O F). held x.files) e))
-      (λ e. cc) (not_refused 10 (λ e. cc) (λ e. cc) (λ e. cc)) (λ before after. quiet)
+      (λ e. cc) (not_refused 10 (λ e. cc) (λ e. cc) (λ e. cc) (λ e. cc)) (λ before after. quiet)
   write_holds old mid new names files left later out put bytes Memory behind same there k t q d (inr (inl w)) =
       let e : Did (doing takes puts stores) mid (OnFiles (wrote bytes (Err fault.NoMemory)) ∷ []) new = subst (λ (x : List Call). Did (doing takes puts stores) mid x new) w d in
       let quiet = q (quiet_one mid new (wrote bytes (Err fault.NoMemory)) e) in
       unsimulated_holds old mid new names left later out put Memory same
       (kept_wrote (held mid.files) (held new.files) bytes (Err fault.NoMemory) (wrote_says mid new bytes (Err fault.NoMemory) [] e))
-      (λ e. cc) (not_refused 10 (λ e. cc) (λ e. cc) (λ e. cc)) (λ before after. quiet)
+      (λ e. cc) (not_refused 10 (λ e. cc) (λ e. cc) (λ e. cc) (λ e. cc)) (λ before after. quiet)
   write_holds old mid new names files left later out put bytes Memory behind same there k t q d (inr (inr w)) =
       let e : Did (doing takes puts stores) mid (OnFiles (wrote bytes (Ok tt)) ∷ []) new = subst (λ (x : List Call). Did (doing takes puts stores) mid x new) w d in
       let quiet = q (quiet_one mid new (wrote bytes (Ok tt)) e) in
       unsimulated_holds old mid new names left later out put Memory same
       (kept_wrote (held mid.files) (held new.files) bytes (Ok tt) (wrote_says mid new bytes (Ok tt) [] e))
-      (λ e. cc) (not_refused 10 (λ e. cc) (λ e. cc) (λ e. cc)) (λ before after. quiet)
+      (λ e. cc) (not_refused 10 (λ e. cc) (λ e. cc) (λ e. cc) (λ e. cc)) (λ before after. quiet)
   write_holds old mid new names files left later out put bytes Usage behind same there k t q d w = absurd w
   write_holds old mid new names files left later out put bytes (Twice x i j) behind same there k t q d w = absurd w
   write_holds old mid new names files left later out put bytes NoMain behind same there k t q d w = absurd w
@@ -451,7 +462,7 @@ module _ {I O F : Type 0} (takes : I → TakeCall → I → Type 0) (puts : O �
           → ((before : Held) → held old.files ≡ Some before → AreFiles before names r.0) → BuildCalls (TellsRun left later out put) r.0 a behind → RunHolds old new names left later out put a
       built behind mid did same input output there (inl u) =
           let e : new ≡ mid = subst (λ (x : List Call). Did (doing takes puts stores) mid x new) u.1 did in
-          unbuilt_holds old new names r.0 left later out put a (ap (λ (x : Objects I O F). held x.files) e ∙ same) there
-          (q (ap (λ (x : Objects I O F). x.input) e ∙ input, ap (λ (x : Objects I O F). x.out) e ∙ output)) u.0
+          let quiet : Quiet old new = (ap (λ (x : Objects I O F). x.input) e ∙ input, ap (λ (x : Objects I O F). x.out) e ∙ output) in
+          unbuilt_holds old new names r.0 left later out put a (ap (λ (x : Objects I O F). held x.files) e ∙ same) quiet there (q quiet) u.0
       built behind mid did same input output there (inr b) =
           write_holds old mid new names r.0 left later out put b.0 a behind same there b.1 b.3 (λ x. q (x.0 ∙ input, x.1 ∙ output)) did b.2

@@ -18,9 +18,9 @@ use Rattle.p9_suite.specs.Commands.{Command, Run, Vi, command_of, run_of, vi_of,
 use Rattle.p9_suite.specs.RunCommand.{output_name}
 use Rattle.p9_suite.specs.RunContent.{AreFiles, TellsRun, RunTells, RunSays, FilesSay, IsRun, Headline}
 use Rattle.p9_suite.specs.ViCommand.{ReadsAndSimulates, ViCalls, ViDoes}
-use Rattle.p9_suite.specs.Suite.{CommandMakes, CommandTells, StatusSays, CommandDoes, SuiteDoes, RunsNone, ViSays, doing, objects, failing_at, fault_counts}
+use Rattle.p9_suite.specs.Suite.{CommandMakes, CommandTells, StatusSays, CommandDoes, SuiteDoes, IsRefused, ViSays, doing, objects, failing_at, fault_counts}
 use Rattle.p9_suite.proofs.Causes.{files_told, joined_run}
-use Rattle.p9_suite.proofs.Contents.{Means, RunHolds, run_holds, kept_same, ended_not}
+use Rattle.p9_suite.proofs.Contents.{Means, RunHolds, run_holds, kept_same, ended_not, not_refused, ended_not_refused}
 use Rattle.p9_suite.proofs.Ordered.{calls_made}
 use Rattle.p9_suite.proofs.RunLemmas.{same_objects}
 
@@ -209,6 +209,29 @@ vi_keeps {I} {O} {F} takes puts held faults stores means old new name budget a (
     by_answer (BadSegment word) r = simulated (BadSegment word) r
     by_answer (NotBuilt word) r = absurd r
 
+-- a refusal of `vi` makes no call on the source and the sink
+vi_quiet : {I O F : Type 0} (doing : Doing I O F) (old new : Objects I O F) (name : List ℕ) (budget : ℕ) (a : Answer) → ViDoes doing old new name budget a → IsRefused (status a) → (new.input ≡ old.input) × (new.out ≡ old.out)
+vi_quiet {I} {O} {F} doing old new name budget (Absent word) (calls, d, r) refused =
+    let e : Did doing old (OnFiles (ReadCall name got.Absent) ∷ []) new = subst (λ c. Did doing old c new) r.1 d in
+    (ap (λ (x : Objects I O F). x.input) e.2 ∙ e.1.1, ap (λ (x : Objects I O F). x.out) e.2 ∙ e.1.2)
+vi_quiet doing old new name budget (Ended printed) (calls, d, r) refused = absurd (ended_not_refused printed refused)
+vi_quiet doing old new name budget Usage (calls, d, r) refused = absurd r
+vi_quiet doing old new name budget (Twice x m n) (calls, d, r) refused = absurd r
+vi_quiet doing old new name budget NoMain (calls, d, r) refused = absurd r
+vi_quiet doing old new name budget (MainType m) (calls, d, r) refused = absurd r
+vi_quiet doing old new name budget (Unresolved x m) (calls, d, r) refused = absurd r
+vi_quiet doing old new name budget (Disagree x m n) (calls, d, r) refused = absurd r
+vi_quiet doing old new name budget ReadFault (calls, d, r) refused = absurd (not_refused 7 (λ e. cc) (λ e. cc) (λ e. cc) (λ e. cc) refused)
+vi_quiet doing old new name budget WriteFault (calls, d, r) refused = absurd (not_refused 8 (λ e. cc) (λ e. cc) (λ e. cc) (λ e. cc) refused)
+vi_quiet doing old new name budget (StoreFault word) (calls, d, r) refused = absurd (not_refused 9 (λ e. cc) (λ e. cc) (λ e. cc) (λ e. cc) refused)
+vi_quiet doing old new name budget Memory (calls, d, r) refused = absurd (not_refused 10 (λ e. cc) (λ e. cc) (λ e. cc) (λ e. cc) refused)
+vi_quiet doing old new name budget (Halted cause pc) (calls, d, r) refused = absurd (not_refused 11 (λ e. cc) (λ e. cc) (λ e. cc) (λ e. cc) refused)
+vi_quiet doing old new name budget (Spent n) (calls, d, r) refused = absurd (not_refused 12 (λ e. cc) (λ e. cc) (λ e. cc) (λ e. cc) refused)
+vi_quiet doing old new name budget (BadMagic word m) (calls, d, r) refused = absurd (not_refused 13 (λ e. cc) (λ e. cc) (λ e. cc) (λ e. cc) refused)
+vi_quiet doing old new name budget (ShortFile word need) (calls, d, r) refused = absurd (not_refused 13 (λ e. cc) (λ e. cc) (λ e. cc) (λ e. cc) refused)
+vi_quiet doing old new name budget (BadSegment word) (calls, d, r) refused = absurd (not_refused 13 (λ e. cc) (λ e. cc) (λ e. cc) (λ e. cc) refused)
+vi_quiet doing old new name budget (NotBuilt word) (calls, d, r) refused = absurd r
+
 -- Of `run`
 
 module _ {I O F : Type 0} (left : I → Option (List ℕ)) (takes : I → TakeCall → I → Type 0) (sofar : O → Option (List ℕ)) (puts : O → PutCall → O → Type 0) (held : F → Option Held) (faults : F → ℕ) (stores : F → FileCall → F → Type 0) (means : Means held faults stores) where
@@ -235,6 +258,17 @@ module _ {I O F : Type 0} (left : I → Option (List ℕ)) (takes : I → TakeCa
       by_held (Some before) at = λ there joins nine ten.
           let h = holds i o f j p g names a (subst (λ (c : Option Command). CommandMakes takes puts stores i o f j p g (TellsRun (left i) (left j) (sofar o) (sofar p)) c a) w makes) in
           at_end before there joins nine ten (held g) (h.tells before at)
+
+  pub quiet : (i : I) (o : O) (f : F) (j : I) (p : O) (g : F) (words : List (List ℕ)) (a : Answer) (s : ℕ) → CommandMakes takes puts stores i o f j p g (TellsRun (left i) (left j) (sofar o) (sofar p)) (command_of words) a → s ≡ status a → IsRefused s → (j ≡ i) × (p ≡ o)
+  quiet i o f j p g words a s makes e refused = by_command (command_of words) makes
+    where
+      of_answer : IsRefused (status a)
+      of_answer = subst (λ n. IsRefused n) e refused
+
+      by_command : (c : Option Command) → CommandMakes takes puts stores i o f j p g (TellsRun (left i) (left j) (sofar o) (sofar p)) c a → (j ≡ i) × (p ≡ o)
+      by_command None r = (r.1, r.2)
+      by_command (Some (Run names)) r = (holds i o f j p g names a r).quiet of_answer
+      by_command (Some (Vi budget name)) r = vi_quiet (doing takes puts stores) (objects i o f) (objects j p g) name budget a r of_answer
 
 -- The causes of the statuses
 
@@ -298,7 +332,7 @@ suite_says {I} {O} {F} left input_faults takes sofar out_faults puts held faults
               let same : names ≡ other = cc in
               subst (λ (n : List (List ℕ)). IfSome (held f) (λ files. FilesSay n files (status a))) same
               (files_at names a (held f) (held g) (left i) (left j) (sofar o) (sofar p) nine ten h.tells);
-          unwritten = λ u. elim u [ inl two ↦ absurd (h.no_usage two) | inr more ↦ h.unwritten more ];
+          unwritten = h.unwritten;
           read_only = λ budget other c. absurd (run_is_no_vi names other budget (sym w ∙ c));
           others = h.others;
         }
@@ -327,11 +361,6 @@ suite_does takes puts stores i o f j p g Tells words a c = by_command (command_o
     by_command None r = (r.0, same_objects i o f j p g r.1 r.2 r.3)
     by_command (Some (Run names)) r = r
     by_command (Some (Vi budget name)) r = r
-
-pub quiet : {I O F : Type 0} (takes : I → TakeCall → I → Type 0) (puts : O → PutCall → O → Type 0) (stores : F → FileCall → F → Type 0) (i : I) (o : O) (f : F) (j : I) (p : O) (g : F) (Tells : List ℕ → Answer → Type 0) (c : Option Command) (a : Answer) → CommandMakes takes puts stores i o f j p g Tells c a → RunsNone c → (j ≡ i) × (p ≡ o)
-quiet takes puts stores i o f j p g Tells None a r n = (r.1, r.2)
-quiet takes puts stores i o f j p g Tells (Some (Run names)) a r n = absurd n
-quiet takes puts stores i o f j p g Tells (Some (Vi budget name)) a r n = absurd n
 
 pub vi_says : (words : List (List ℕ)) (held : Option Held) (left later out now : Option (List ℕ)) (a : Answer) (s : ℕ) (Line : List ℕ → Type 0) → CommandTells (command_of words) held left later out now a → s ≡ status a → Line (message a) → ViSays words held left later out now s Line
 vi_says words held left later out now a s Line t e l budget name w = (a, e, l, subst (λ c. CommandTells c held left later out now a) w t)

@@ -44,11 +44,10 @@ CommandMakes takes puts stores i o f j p g Tells (Some (Run names)) answer =
 CommandMakes takes puts stores i o f j p g Tells (Some (Vi budget name)) answer =
     ViDoes (doing takes puts stores) (objects i o f) (objects j p g) name budget answer
 
--- the words are no command
-abbrev pub RunsNone : Option Command → Type 0
-RunsNone None = Unit {0}
-RunsNone (Some (Run names)) = ⊥
-RunsNone (Some (Vi budget name)) = ⊥
+-- the statuses of refusals before a write or a simulation: words that are no command, files that don't join, one that
+-- isn't there, and one without the form
+abbrev pub IsRefused : ℕ → Type 0
+IsRefused s = (s ≡ 2) ⊎ (s ≡ 5) ⊎ (s ≡ 6) ⊎ (s ≡ 16)
 
 -- what `vi` tells of the content, where the store, the source and the sink tell theirs
 abbrev pub CommandTells : Option Command → Option Held → (left later out now : Option (List ℕ)) → Answer → Type 0
@@ -92,7 +91,7 @@ pub record StatusSays (words : List (List ℕ)) (held later : Option Held) (befo
       (names : List (List ℕ)) → command_of words ≡ Some (Run names) → s ≢ 9 → s ≢ 10 →
       IfSome held (λ files. FilesSay names files s)
   -- a refusal before the write leaves the store as it was
-  pub unwritten : (s ≡ 2) ⊎ (s ≡ 5) ⊎ (s ≡ 6) ⊎ (s ≡ 16) → later ≡ held
+  pub unwritten : IsRefused s → later ≡ held
   -- and so does `vi`
   pub read_only : (budget : ℕ) (name : List ℕ) → command_of words ≡ Some (Vi budget name) → later ≡ held
   -- whatever the status, every name but `v.out` has what it had

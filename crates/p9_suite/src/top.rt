@@ -5,7 +5,7 @@ ghost use Rattle.p9_suite.specs.Answers.{message, status};
 ghost use Rattle.p9_suite.specs.Commands.{command_of};
 ghost use Rattle.p9_suite.specs.Reports.{Tells};
 ghost use Rattle.p9_suite.specs.RunContent.{Headline, RunSays, TellsRun};
-ghost use Rattle.p9_suite.specs.Suite.{CommandMakes, CommandTells, SuiteDoes, CallsMade, StatusSays, RunsNone, ViSays, doing, objects, fault_counts};
+ghost use Rattle.p9_suite.specs.Suite.{CommandMakes, CommandTells, SuiteDoes, CallsMade, StatusSays, IsRefused, ViSays, doing, objects, fault_counts};
 
 use crate::answer::Answer;
 use crate::command::{Command, command_of};
@@ -73,9 +73,9 @@ pub fn suite<I: Source, O: Sink, E: Sink, F: Files>(
     ensures run { RunSays words.now (F.held files.old) (F.held files.new) (I.left input.old) (I.left input.new) (O.sofar out.old) (O.sofar out.new) result
         (λ line. Tells E.sofar E.faults err.old err.new line) }
 
-    // Words that are no command take and put nothing.
-    ensures input { RunsNone (command_of words.now) → input.new ≡ input.old }
-    ensures out { RunsNone (command_of words.now) → out.new ≡ out.old }
+    // A refusal takes and puts nothing.
+    ensures input { IsRefused result → input.new ≡ input.old }
+    ensures out { IsRefused result → out.new ≡ out.old }
 {
     let answer = answer(alloc, words, input, out, files);
     report(err, &answer);
