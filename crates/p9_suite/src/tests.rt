@@ -1,6 +1,6 @@
 // Commands over memory.
 use crate::suite;
-use p9_base::{Bytes, Calls, Entry, Files, Got, MemFiles, MemSink, MemSource, Words};
+use p9_base::{Bytes, Calls, Files, Got, MemFiles, MemSink, MemSource, Words};
 use std::alloc::{AllocError, Global};
 use std::test::Fail;
 
@@ -51,7 +51,7 @@ struct Outcome {
     executable: Option<Bytes>,
 }
 
-// The numbers of the calls that fail.
+// The numbers of the calls that fail. The first calls on the store write its files.
 #[derive(Clone, Copy)]
 struct Fails<'a> {
     input: &'a [u64],
@@ -73,15 +73,12 @@ fn result_of(
     let mut input = MemSource::new(bytes(alloc, b"input")?, calls(alloc, fails.input)?);
     let mut out = MemSink::new(alloc, 100, calls(alloc, fails.out)?)?;
     let mut err = MemSink::new(alloc, 300, calls(alloc, &[])?)?;
-    let mut entries = Vec::new(alloc);
+    let mut files = MemFiles::new(Vec::new(alloc), calls(alloc, fails.files)?);
     for (name, file) in sources {
-        let entry = Entry {
-            name: bytes(alloc, name)?,
-            bytes: bytes(alloc, file)?,
-        };
-        entries.push(entry)?;
+        files
+            .write(alloc, &bytes(alloc, name)?, &bytes(alloc, file)?)
+            .map_err(|_| "not written")?;
     }
-    let mut files = MemFiles::new(entries, calls(alloc, fails.files)?);
     let status = suite(alloc, &words, &mut input, &mut out, &mut err, &mut files);
     let executable = match files.read(alloc, &bytes(alloc, b"v.out")?) {
         Got::Found(bytes) => Some(bytes),
@@ -182,12 +179,12 @@ fn faults(rt: HostRuntime) -> Result<(), Fail> {
     let read = Fails {
         input: &[],
         out: &[],
-        files: &[0],
+        files: &[1],
     };
     let written = Fails {
         input: &[],
         out: &[],
-        files: &[1],
+        files: &[2],
     };
     let rows = [
         Row {
