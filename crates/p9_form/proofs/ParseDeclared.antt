@@ -1,12 +1,12 @@
 -- Declarations one after the other.
-use Rattle.std.proofs.Common.{◌≡◌, ℕ, zero, suc, ◌+◌, ◌<◌, ◌≤◌, Bool, true, false, not, ◌&&◌, List, [], ◌∷◌, ◌++◌, length, length-append, Option, Some, None, refl, ap, ◌∙◌, sym, subst, append_assoc, arith}
-use Rattle.p9_lang.specs.Tokens.{Token, Word, Mark, End}
+use Rattle.std.proofs.Common.{◌≡◌, ℕ, ◌<◌, Bool, true, false, not, ◌&&◌, List, [], ◌∷◌, ◌++◌, length, length-append, Some, None, refl, ap, ◌∙◌, sym, subst, append_assoc, arith}
+use Rattle.p9_lang.specs.Tokens.{Token, End}
 use Rattle.p9_lang.specs.Form.{is_among, is_variable_name}
 use Rattle.p9_form.specs.declared.file.First.{First}
 use Rattle.p9_form.specs.declared.file.First.TheVariants as first
 use Rattle.p9_form.specs.declared.file.Declaration.{Declaration}
-use Rattle.p9_form.specs.Reading.{Got, got, read_declaration}
-use Rattle.p9_form.specs.Phrases.{mark, declaration_tokens, declarations_tokens, DeclarationFits, DeclarationsFit, declared}
+use Rattle.p9_form.specs.Reading.{got, read_declaration}
+use Rattle.p9_form.specs.Phrases.{declaration_tokens, declarations_tokens, DeclarationFits, DeclarationsFit, declared}
 use Rattle.p9_form.specs.Found.{begins_declaration, is_end, AreDeclared, HasNoDeclarations}
 use Rattle.p9_form.proofs.ParseDeclarations.{declaration_sound, declaration_exact}
 

@@ -6,8 +6,8 @@ ghost use Rattle.p9_form.specs.Reading.{got, is_that_mark, read_mark, read_word,
 ghost use Rattle.p9_form.specs.Found.{begins_declaration, is_end};
 ghost use Rattle.p9_form.specs.declared.parse.cursor.Refusal.TheVariants.{NoForm};
 
-use crate::token::Token;
 use crate::parse::text::is_text;
+use crate::token::Token;
 use p9_base::{Bytes, Name, NoMemory};
 use std::alloc::AllocFailed;
 use std::marker::Model;

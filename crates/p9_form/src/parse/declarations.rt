@@ -33,7 +33,9 @@ fn new_name(alloc: Global, names: &Names, cursor: &mut Cursor) -> Result<Name, R
     ensures err { IfErr result (λ e. e ≡ NoForm → read_new_name names.now cursor.old ≡ None) }
 {
     match cursor.next() {
-        Some(Token::Word(name)) if is_variable_name(name) && !names.has(name) => Ok(name.copied(alloc)?),
+        Some(Token::Word(name)) if is_variable_name(name) && !names.has(name) => Ok(name.copied(
+            alloc,
+        )?),
         _ => Err(Refusal::NoForm),
     }
 }

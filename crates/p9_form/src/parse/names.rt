@@ -87,7 +87,9 @@ fn is_name(bytes: &[u8]) -> bool
     ensures { result ≡ is_name bytes.now }
 {
     match bytes {
-        [first, rest @ ..] => is_letter(*first) && are_letters_and_digits(rest) && rest.len() <= 254,
+        [first, rest @ ..] => is_letter(*first)
+            && are_letters_and_digits(rest)
+            && rest.len() <= 254,
         [] => false,
     }
 }

@@ -100,7 +100,9 @@ fn exits(alloc: Global, cursor: &mut Cursor) -> Result<Statement, Refusal>
     ensures err { IfErr result (λ e. e ≡ NoForm → read_exits cursor.old ≡ None) }
 {
     match cursor.next() {
-        Some(Token::Text(bytes)) if is_text(bytes) => Ok(Statement::Exits(Some(bytes.copied(alloc)?))),
+        Some(Token::Text(bytes)) if is_text(bytes) => Ok(Statement::Exits(Some(bytes.copied(
+            alloc,
+        )?))),
         Some(Token::Number(0)) => Ok(Statement::Exits(None)),
         _ => Err(Refusal::NoForm),
     }
