@@ -15,13 +15,6 @@ use std::marker::Model;
 /// The largest int.
 pub(crate) const LARGEST: u32 = 0x7fff_ffff;
 
-// `extern`, `int` or `long`
-fn begins_declaration(token: &Token) -> bool
-    ensures { result ≡ is_that_word (codes "extern") (token_seen token.now) || (is_that_word (codes "int") (token_seen token.now) || is_that_word (codes "long") (token_seen token.now)) }
-{
-    is_that_word(token, b"extern") || is_that_word(token, b"int") || is_that_word(token, b"long")
-}
-
 /// Why a file is not read.
 #[derive(Clone, Copy, Debug, PartialEq, Eq, Drop)]
 pub(crate) enum Refusal {
@@ -91,6 +84,13 @@ fn is_that_word(token: &Token, word: &[u8]) -> bool
         Token::Word(name) => is_word(name, word),
         _ => false,
     }
+}
+
+// `extern`, `int` or `long`
+fn begins_declaration(token: &Token) -> bool
+    ensures { result ≡ is_that_word (codes "extern") (token_seen token.now) || (is_that_word (codes "int") (token_seen token.now) || is_that_word (codes "long") (token_seen token.now)) }
+{
+    is_that_word(token, b"extern") || is_that_word(token, b"int") || is_that_word(token, b"long")
 }
 
 impl<'a> Cursor<'a> {

@@ -3,8 +3,9 @@ ghost use Rattle.std.specs.Prelude.{◌≡◌, false, List, ◌∷◌, [], OnOk}
 ghost use Rattle.std.specs.Str.{bytes_eq};
 ghost use Rattle.indexmap.specs.IndexSet.{insert_key};
 ghost use Rattle.std.specs.List.{list_all, list_any};
-ghost use Rattle.p9_lang.specs.Form.{same_name, is_among, is_letter, is_letter_or_digit, is_name, keywords, functions, is_variable_name};
+ghost use Rattle.p9_lang.specs.Form.{same_name, is_among, is_letter_or_digit, is_name, keywords, functions, is_variable_name};
 
+use crate::scan::{is_letter, is_letter_or_digit};
 use indexmap::IndexSet;
 use p9_base::{Name, NoMemory};
 use std::alloc::Global;
@@ -63,18 +64,6 @@ impl Names {
     {
         put(&mut self.set, name)
     }
-}
-
-fn is_letter(b: u8) -> bool
-    ensures { result ≡ is_letter b }
-{
-    (97 <= b && b <= 122) || (65 <= b && b <= 90) || b == 95
-}
-
-fn is_letter_or_digit(b: u8) -> bool
-    ensures { result ≡ is_letter_or_digit b }
-{
-    is_letter(b) || (48 <= b && b <= 57)
 }
 
 fn are_letters_and_digits(bytes: &[u8]) -> bool
