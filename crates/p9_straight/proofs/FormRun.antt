@@ -1,7 +1,6 @@
 -- What `main` of the form comes to, by the values of variables alone. The run of the sources and
 -- the run of the machine are both compared with it.
-use Rattle.std.specs.Prelude.{◌≡◌, ℕ, zero, suc, ◌+◌, Bool, true, false, if◌then◌else◌, List, [], ◌∷◌, ◌++◌, length, take, map, Option, Some, None, unwrap_or, nat_le, codes}
-use Rattle.std.specs.List.{list_all}
+use Rattle.std.specs.Prelude.{◌≡◌, ℕ, zero, suc, ◌+◌, if◌then◌else◌, List, [], ◌∷◌, ◌++◌, length, take, Option, Some, None, unwrap_or, nat_le, codes}
 use Rattle.p9_base.specs.Words.{word_sum, is_negative}
 use Rattle.p9_lang.specs.Form.{same_name}
 use Rattle.p9_cmean.specs.Turns.{Outcome, Ended, Out, Undefined, Deep}

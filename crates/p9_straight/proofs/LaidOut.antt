@@ -1,19 +1,17 @@
 -- The variables of joined files lie at their addresses, each apart from the others, with their first values.
-use Rattle.std.proofs.Common.{◌≡◌, ◌≢◌, ◌<◌, ◌≤◌, ◌⊎◌, inl, inr, ⊎_elim, ℕ, zero, suc, ◌+◌, ◌-◌, ◌*◌, ◌/◌, ◌%◌, ◌^◌, Bool, true, false, not, ◌&&◌, ◌||◌, if◌then◌else◌, List, [], ◌∷◌, ◌++◌, length, take, drop, map, replicate, flat_map, slice_index, slice_index_or, Contains, All, Some, None, Option, unwrap_or, refl, sym, ap, ◌∙◌, subst, arith, length-append, append_assoc, append-nil}
-use Rattle.std.proofs.lemmas.List.{length-replicate}
+use Rattle.std.proofs.Common.{◌≡◌, ◌<◌, ◌≤◌, ◌⊎◌, inl, inr, ℕ, zero, suc, ◌+◌, ◌-◌, ◌*◌, ◌%◌, ◌^◌, Bool, true, false, ◌||◌, if◌then◌else◌, List, [], ◌∷◌, ◌++◌, length, map, replicate, flat_map, slice_index, slice_index_or, Contains, Some, None, Option, unwrap_or, refl, sym, ap, ◌∙◌, subst, arith, append-nil}
 use Rattle.std.proofs.lemmas.List.Elements.{Contains-append_cases}
-use Rattle.std.proofs.lemmas.Grind.{common_steps, flat_map-append}
 use Rattle.p9_base.specs.Numbers.{word_at}
 use Rattle.p9_r3k.specs.Start.{zeros}
 use Rattle.p9_lang.specs.Form.{same_name, is_among}
 use Rattle.p9_lang.specs.Modules.{new_names}
 use Rattle.p9_form.specs.declared.file.File.{File}
-use Rattle.p9_form.specs.Sharing.{declarations, statements, Initial, initials, tentatives, defined_names}
+use Rattle.p9_form.specs.Sharing.{statements, Initial, initials, tentatives, defined_names}
 use Rattle.p9_straight.specs.Layout.{Datum, Variable, Text, end_text, text_in, datum_bytes, variable_in, common_in, or_else, variables_of, data_of, data_objects, init_bytes, commons, bss_size, address_of}
 use Rattle.p9_straight.specs.Code.{data_start, place_in}
 use Rattle.p9_straight.proofs.FormRun.{initial_of}
 use Rattle.p9_straight.proofs.Placed.{AreVariables}
-use Rattle.p9_straight.proofs.Positions.{same_is, same_self, some_is, none_not, bytes_of, bytes_words, variables, AreWords, variable_from, variable_within, variable_aligned, variable_first, variable_apart, common_from, common_within, common_aligned, common_apart, word_behind}
+use Rattle.p9_straight.proofs.Positions.{same_is, same_self, none_not, bytes_words, variables, AreWords, variable_from, variable_within, variable_aligned, variable_first, variable_apart, common_from, common_within, common_aligned, common_apart, word_behind}
 
 -- The variables among the data of files are those with first values
 
@@ -127,8 +125,6 @@ new_there at known (y ∷ ys) x h u =
         let r = later g (ap (λ b. b || is_among known x) e ∙ u) in skipped e r.0 r.1
 
 -- Every defined name has its place, among the data or behind them
-
-
 
 abbrev pub behind_init : List File → ℕ
 behind_init files = data_start files + length (init_bytes files)

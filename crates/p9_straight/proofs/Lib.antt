@@ -32,3 +32,4 @@ pub mod SourceObjects
 pub mod SourceMeaning
 pub mod Fitting
 pub mod Composed
+pub mod Compiled

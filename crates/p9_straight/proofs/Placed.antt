@@ -1,13 +1,13 @@
 -- Variables and texts at their places in the data: what the run of the machine asks of a layout, and
 -- what the layout of files gives.
-use Rattle.std.specs.Prelude.{◌≡◌, ◌≤◌, ◌<◌, ◌⊎◌, ℕ, ◌+◌, ◌-◌, ◌*◌, ◌%◌, List, [], ◌∷◌, ◌++◌, length, take, drop, Contains, replicate, Option, Some, None}
+use Rattle.std.specs.Prelude.{◌≡◌, ◌≤◌, ◌⊎◌, ℕ, ◌+◌, ◌-◌, ◌%◌, List, [], ◌∷◌, ◌++◌, length, take, drop, Contains, Some, None}
 use Rattle.p9_base.specs.Numbers.{word_at}
 use Rattle.p9_r3k.specs.Start.{zeros}
 use Rattle.p9_form.specs.declared.file.Statement.{Statement}
 use Rattle.p9_form.specs.declared.file.Statement.TheVariants.{Assign, Write, Exits}
 use Rattle.p9_straight.specs.Layout.{end_text}
 use Rattle.p9_straight.specs.Code.{text_after}
-use Rattle.p9_straight.proofs.FormRun.{Values, Came, Ends, RunsOut, Fails}
+use Rattle.p9_straight.proofs.FormRun.{Values}
 
 -- variables with these names lie in data that begin here, each in a word of its own, with its first value
 pub record AreVariables (place : List ℕ → ℕ) (names : List (List ℕ)) (begin : ℕ) (init : List ℕ) (bss : ℕ) (values : Values) : Type 0 where

@@ -1,5 +1,5 @@
 -- Where variables and texts lie among data.
-use Rattle.std.proofs.Common.{◌≡◌, ◌≢◌, ◌<◌, ◌≤◌, ◌⊎◌, inl, inr, ℕ, zero, suc, ◌+◌, ◌-◌, ◌*◌, ◌/◌, ◌%◌, ◌^◌, Bool, true, false, not, ◌&&◌, eqb, if◌then◌else◌, List, [], ◌∷◌, ◌++◌, length, take, drop, map, replicate, flat_map, slice_index, All, Some, None, Option, refl, sym, ap, ◌∙◌, subst, arith, length-append, append_assoc, append-nil}
+use Rattle.std.proofs.Common.{◌≡◌, ◌<◌, ◌≤◌, ◌⊎◌, inl, inr, ℕ, suc, ◌+◌, ◌-◌, ◌*◌, ◌%◌, ◌^◌, Bool, true, false, ◌&&◌, if◌then◌else◌, List, [], ◌∷◌, ◌++◌, length, replicate, flat_map, All, Some, None, refl, sym, ap, ◌∙◌, subst, arith, length-append, append_assoc}
 use Rattle.std.proofs.lemmas.Bool.Decides.{nat_tests}
 use Rattle.std.proofs.lemmas.Grind.{common_steps}
 use Rattle.std.proofs.lemmas.List.{length-replicate}
@@ -176,17 +176,21 @@ first_found : (rest : List ℕ) (at : ℕ) (ds : List Datum) (x : List ℕ) (a :
 first_found rest at ds x a h =
     variable_found (IsFirstFrom rest) at ds x a
     (λ at v ds x e. (omega arith, first_own rest at v ds x e))
-    (λ at v ds x a e r. (let l = r.0 in omega (arith, l),
-    λ w.
-    ap (λ n. word_at (bytes_of (Variable v ∷ ds) ++ rest) n) (place_behind at 4 a r.0)
-    ∙ behind_bytes (word_bytes v.value) (bytes_of ds) rest 4 (a - (at + 4)) refl
-    ∙ r.1 (tail_words v (variables ds) w)
-    ∙ sym (ap (λ b. if b then v.value else initial_of (variables ds) x) e)))
-    (λ at text ds x a r. (let l = r.0 in omega (arith, l),
-    λ w.
-    ap (λ n. word_at (bytes_of (Text text ∷ ds) ++ rest) n) (place_behind at (length (text_bytes text)) a r.0)
-    ∙ behind_bytes (text_bytes text) (bytes_of ds) rest (length (text_bytes text)) (a - (at + length (text_bytes text))) refl
-    ∙ r.1 w))
+    (λ at v ds x a e r. (
+      let l = r.0 in omega (arith, l),
+      λ w.
+          ap (λ n. word_at (bytes_of (Variable v ∷ ds) ++ rest) n) (place_behind at 4 a r.0)
+          ∙ behind_bytes (word_bytes v.value) (bytes_of ds) rest 4 (a - (at + 4)) refl
+          ∙ r.1 (tail_words v (variables ds) w)
+          ∙ sym (ap (λ b. if b then v.value else initial_of (variables ds) x) e),
+    ))
+    (λ at text ds x a r. (
+      let l = r.0 in omega (arith, l),
+      λ w.
+          ap (λ n. word_at (bytes_of (Text text ∷ ds) ++ rest) n) (place_behind at (length (text_bytes text)) a r.0)
+          ∙ behind_bytes (text_bytes text) (bytes_of ds) rest (length (text_bytes text)) (a - (at + length (text_bytes text))) refl
+          ∙ r.1 w,
+    ))
     h
 
 pub variable_first : (rest : List ℕ) (at : ℕ) (ds : List Datum) (x : List ℕ) (a : ℕ) → variable_in at ds x ≡ Some a → AreWords (variables ds)

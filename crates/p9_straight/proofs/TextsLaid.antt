@@ -1,5 +1,5 @@
 -- The texts of joined files lie at their addresses, and no variable lies in them.
-use Rattle.std.proofs.Common.{◌≡◌, ◌<◌, ◌≤◌, ◌⊎◌, inl, inr, ℕ, zero, suc, ◌+◌, ◌-◌, ◌*◌, ◌%◌, List, [], ◌∷◌, ◌++◌, length, take, drop, map, replicate, flat_map, Contains, Some, None, Option, refl, sym, ap, ◌∙◌, subst, arith, length-append, append_assoc}
+use Rattle.std.proofs.Common.{◌≡◌, ◌<◌, ◌≤◌, ◌⊎◌, inl, inr, ℕ, zero, suc, ◌+◌, ◌-◌, ◌*◌, ◌%◌, List, [], ◌∷◌, ◌++◌, length, take, drop, map, replicate, flat_map, Some, None, Option, refl, sym, ap, ◌∙◌, subst, arith, length-append, append_assoc}
 use Rattle.std.proofs.Math.Seq.{take-append-add, drop-append_seam}
 use Rattle.std.proofs.lemmas.Grind.{flat_map-append}
 use Rattle.p9_form.specs.declared.file.Statement.{Statement}
@@ -8,9 +8,9 @@ use Rattle.p9_form.specs.declared.file.File.{File}
 use Rattle.p9_form.specs.Sharing.{Initial, statements, mains, defined_names, AreJoined}
 use Rattle.p9_straight.specs.Layout.{Datum, Variable, Text, text_bytes, datum_bytes, text_in, end_text, variables_of, data_of, data_objects, init_bytes, commons, variable_in, texts_from, texts_at, end_at}
 use Rattle.p9_straight.specs.Code.{data_start, place_in, text_after, first_of, main_of}
-use Rattle.p9_straight.proofs.Placed.{IsTextAt, HasItsText, AreTexts}
+use Rattle.p9_straight.proofs.Placed.{IsTextAt, AreTexts}
 use Rattle.p9_straight.proofs.Positions.{bytes_of, padded_size, variable_clear, common_from}
-use Rattle.p9_straight.proofs.LaidOut.{Lies, IsAmong, IsBehind, where_it_lies, behind_init}
+use Rattle.p9_straight.proofs.LaidOut.{Lies, where_it_lies, behind_init}
 
 bytes_append : (ds es : List Datum) → bytes_of (ds ++ es) ≡ bytes_of ds ++ bytes_of es
 bytes_append ds es = flat_map-append datum_bytes ds es
@@ -99,14 +99,16 @@ texts_lie : (files : List File) (ss : List Statement) (front back : List Datum) 
 texts_lie files [] front back at end e a z = z
 texts_lie files (Assign x left right ∷ ss) front back at end e a z = (tt, texts_lie files ss front back at end e a z)
 texts_lie files (Exits None ∷ ss) front back at end e a z = (tt, texts_lie files ss front back at end e a z)
-texts_lie files (Write text count ∷ ss) front back at end e a z =
-    (text_lies files front text (texts_of ss ++ back) at e a,
-    texts_lie files ss (front ++ Text text ∷ []) back (text_after at (Write text count)) end
-    (next_front files front text (texts_of ss ++ back) e) (next_place files front text at a) z)
-texts_lie files (Exits (Some text) ∷ ss) front back at end e a z =
-    (text_lies files front text (texts_of ss ++ back) at e a,
-    texts_lie files ss (front ++ Text text ∷ []) back (text_after at (Exits (Some text))) end
-    (next_front files front text (texts_of ss ++ back) e) (next_place files front text at a) z)
+texts_lie files (Write text count ∷ ss) front back at end e a z = (
+  text_lies files front text (texts_of ss ++ back) at e a,
+  texts_lie files ss (front ++ Text text ∷ []) back (text_after at (Write text count)) end
+      (next_front files front text (texts_of ss ++ back) e) (next_place files front text at a) z,
+)
+texts_lie files (Exits (Some text) ∷ ss) front back at end e a z = (
+  text_lies files front text (texts_of ss ++ back) at e a,
+  texts_lie files ss (front ++ Text text ∷ []) back (text_after at (Exits (Some text))) end
+      (next_front files front text (texts_of ss ++ back) e) (next_place files front text at a) z,
+)
 
 -- The texts of `main` among the data of all files
 

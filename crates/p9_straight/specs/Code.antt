@@ -1,6 +1,6 @@
 -- The instructions of `main`, where each variable has an address and the texts lie one behind the
 -- other.
-use Rattle.std.specs.Prelude.{ℕ, ◌+◌, ◌*◌, ◌/◌, ◌%◌, List, [], ◌∷◌, ◌++◌, length, map, flat_map, Option, Some, None, unwrap_or}
+use Rattle.std.specs.Prelude.{ℕ, ◌+◌, ◌*◌, ◌/◌, ◌%◌, List, [], ◌∷◌, ◌++◌, length, flat_map, Some, None, unwrap_or}
 use Rattle.p9_base.specs.Numbers.{word_bytes}
 use Rattle.p9_r3k.specs.declared.inst.Inst.{Inst}
 use Rattle.p9_r3k.specs.declared.inst.Inst.TheVariants.{Addiu, Lui, Ori, Lw, Sw, Sll, Addu, Syscall}
@@ -13,7 +13,7 @@ use Rattle.p9_form.specs.declared.file.Operand.TheVariants.{Variable, Number}
 use Rattle.p9_form.specs.declared.file.Statement.{Statement}
 use Rattle.p9_form.specs.declared.file.Statement.TheVariants.{Assign, Write, Exits}
 use Rattle.p9_form.specs.declared.file.File.{File}
-use Rattle.p9_form.specs.Sharing.{padded, statements, mains}
+use Rattle.p9_form.specs.Sharing.{padded, mains}
 use Rattle.p9_straight.specs.Layout.{init_bytes, bss_size, address_of, texts_at, end_at}
 
 abbrev pub nothing : Inst

@@ -1,7 +1,7 @@
 -- The data of files that share variables, and the addresses of what lies in it.
-use Rattle.std.specs.Prelude.{ℕ, suc, ◌+◌, ◌-◌, ◌*◌, ◌%◌, ◌==◌, Bool, true, false, not, if◌then◌else◌, List, [], ◌∷◌, ◌++◌, length, map, flat_map, filter, replicate, Option, Some, None, unwrap_or, codes}
+use Rattle.std.specs.Prelude.{ℕ, ◌+◌, ◌-◌, ◌*◌, ◌%◌, if◌then◌else◌, List, [], ◌∷◌, ◌++◌, length, map, flat_map, replicate, Option, Some, None, codes}
 use Rattle.p9_base.specs.Numbers.{word_bytes}
-use Rattle.p9_lang.specs.Form.{same_name, is_among}
+use Rattle.p9_lang.specs.Form.{same_name}
 use Rattle.p9_lang.specs.Modules.{new_names}
 use Rattle.p9_form.specs.declared.file.Statement.{Statement}
 use Rattle.p9_form.specs.declared.file.Statement.TheVariants.{Assign, Write, Exits}

@@ -88,6 +88,7 @@ fn image_bytes(alloc: Global, files: &FileList) -> Result<Bytes, NoMemory>
 }
 
 /// Compiles files that are joined.
+#[tactic(auto, using(crate::proofs::Compiled::compiled_keeps))]
 pub fn compile(alloc: Global, files: &FileList) -> Result<Bytes, NoMemory>
     requires form { All (λ f. IsFile (items_of f)) files.now }
     requires small { All IsSmall files.now }
@@ -98,5 +99,5 @@ pub fn compile(alloc: Global, files: &FileList) -> Result<Bytes, NoMemory>
     ensures keeps { IfOk result (λ bytes. KeepsMeaning (map source_of files.now) bytes) }
     ensures ends { IfOk result (λ bytes. EndsInTime (map source_of files.now) bytes) }
 {
-    Err(NoMemory)
+    image_bytes(alloc, files)
 }
