@@ -1,3 +1,13 @@
+pub mod ParseSteps
+pub mod ParseMarks
+pub mod ParseStatements
+pub mod ParseDeclarations
+pub mod ParseBodies
+pub mod ParseDeclared
+pub mod ParseFiles
+pub mod ParseTrees
+pub mod ParseItems
+pub mod ParseSizes
 pub mod Formed
 pub mod ScanCases
 pub mod ScanNumbers
@@ -5,3 +15,4 @@ pub mod ScanTexts
 pub mod ScanTokens
 pub mod ScanLoop
 pub mod ScanCode
+pub mod ParseForms

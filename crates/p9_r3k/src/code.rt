@@ -162,6 +162,7 @@ pub fn encode(i: &Inst) -> u32
 }
 
 /// The instruction of a word under op 0.
+#[inline(always)]
 fn special_row(w: u32) -> Option<Inst>
     requires { op_of w ≡ 0 }
     ensures exact { result ≡ special w }
@@ -294,6 +295,7 @@ fn special_row(w: u32) -> Option<Inst>
 }
 
 /// The instruction of a word under op 1.
+#[inline(always)]
 fn regimm_row(w: u32) -> Option<Inst>
     requires { op_of w ≡ 1 }
     ensures exact { result ≡ regimm w }
@@ -322,6 +324,7 @@ fn regimm_row(w: u32) -> Option<Inst>
 
 /// The instruction of a word under any op.
 #[tactic(auto, unfolding(crate::specs::Table::decoded))]
+#[inline(always)]
 fn any_row(w: u32) -> Option<Inst>
     ensures exact { result ≡ decoded w }
     ensures found { IfSome result (λ i. Fits i × (word_of i ≡ w)) }
@@ -437,6 +440,7 @@ fn any_row(w: u32) -> Option<Inst>
 }
 
 /// The instruction of a word, or none where the word is of no row.
+#[inline(always)]
 pub fn decode(w: u32) -> Option<Inst>
     ensures exact { result ≡ decoded w }
     ensures found { IfSome result (λ i. Fits i × (word_of i ≡ w)) }

@@ -1,4 +1,5 @@
 pub mod CallLists
+pub mod Clear
 pub mod Pieces
 pub mod Requests
 pub mod Stepping

@@ -1,5 +1,5 @@
 -- Steps and runs.
-use Rattle.std.proofs.Common.{ℕ, zero, suc, ◌+◌, ◌-◌, ◌≡◌, ◌≤◌, ◌<◌, List, Option, refl, sym, subst, ◌∙◌, ap, Bool, Result, Ok, Err, arith}
+use Rattle.std.proofs.Common.{ℕ, zero, suc, ◌+◌, ◌-◌, ◌≡◌, ◌≤◌, ◌<◌, List, Option, refl, sym, subst, ◌∙◌, ap, Bool, true, false, Result, Ok, Err, arith}
 use Rattle.p9_r3k.specs.declared.inst.Inst.{Inst}
 use Rattle.p9_r3k.specs.declared.halt.Asked.{Asked}
 use Rattle.p9_r3k.specs.declared.halt.HaltCause.{HaltCause}
@@ -10,11 +10,12 @@ use Rattle.p9_r3k.specs.declared.halt.Effect.TheVariants.{Write, Pair, Load, Sto
 use Rattle.p9_r3k.specs.Memory.{Core}
 use Rattle.p9_r3k.specs.Effects.{effect_of, reads_pair}
 use Rattle.p9_r3k.specs.Machine.{State, state, step, run, going, executed, acted, called, asked, fetched, applied, halted}
+use Rattle.p9_r3k.proofs.Runs.{run-sum}
 use Rattle.p9_vi.specs.declared.stop.Stop.{Stop as Stopped}
 use Rattle.p9_vi.specs.declared.stop.Stepped.{Stepped}
 use Rattle.p9_vi.specs.declared.stop.Stepped.TheVariants.{Done, ReadFault, WriteFault}
 use Rattle.p9_vi.specs.Stops.{IsAtCall, ReadFails, WriteFails, RunsToRead, RunsToWrite, Runs, Told, stop_of}
-use Rattle.p9_vi.specs.Steps.{Calls, CallKeeps, Steps, StepStands}
+use Rattle.p9_vi.specs.Steps.{Calls, CallKeeps, Steps, StepStands, Plain, PlainRun}
 
 -- One step
 
@@ -68,6 +69,16 @@ step_calls ReadFault c new l s l' s' request at q d =
 step_calls WriteFault c new l s l' s' request at q d =
     let P : Asked → Type 0 = λ a. WriteFails a c s s' in
     (at, subst P q d.0, d.1, d.2)
+
+-- Steps that touch neither the input nor the output
+
+pub halts_plain : (c new : Core) (cause : HaltCause) → c.ending ≡ Running → fetched c ≡ Err cause → new ≡ halted c cause →
+    Plain true c new
+halts_plain c new cause e f h = λ l s. step_halts c new l s cause e f h
+
+pub acts_plain : (c new : Core) (i : Inst) (e : Effect) → c.ending ≡ Running → fetched c ≡ Ok i → e ≡ effect_of i c →
+    (e ≡ Call → ⊥) → new ≡ applied e c (reads_pair i) → Plain true c new
+acts_plain c new i e h f k n a = λ l s. step_acts c new l s i e h f k n a
 
 -- The objects tell what they have
 
@@ -128,6 +139,16 @@ run_step k x = let e : k + 1 ≡ suc k = omega arith in rw e refl
 
 -- Many steps
 
+pub plain_none : (c : Core) → PlainRun 0 c c
+unfolding run
+plain_none c = λ l s. refl
+
+pub plain_more : (k : ℕ) (old m new : Core) → PlainRun k old m → Plain true m new → PlainRun (k + 1) old new
+plain_more k old m new r d = λ l s. d l s ∙ (ap step (r l s) ∙ sym (run_step k (state old l s)))
+
+pub plain_same : (k : ℕ) (old m new : Core) → PlainRun k old m → Plain false m new → PlainRun k old new
+plain_same k old m new r d = λ l s. ap (λ (c : Core). state c l s) d ∙ r l s
+
 -- the run of k steps
 abbrev pub RunsTo : (k : ℕ) (old new : Core) (l s l' s' : List ℕ) → Type 0
 RunsTo k old new l s l' s' = state new l' s' ≡ run k (state old l s)
@@ -142,6 +163,12 @@ runs_more k left mid later out now then old m new r d = λ l s e1 e2.
     let t = r l s e1 e2 in
     let u = d t.0 t.1 t.2 t.3 in
     (u.0, u.1, u.2, u.3, u.4 ∙ (ap step t.4 ∙ sym (run_step k (state old l s))))
+
+pub runs_plain : (d k : ℕ) (left mid out now : Option (List ℕ)) (old m new : Core) → Told (RunsTo d old m) left mid out now →
+    PlainRun k m new → Told (RunsTo (d + k) old new) left mid out now
+runs_plain d k left mid out now old m new r p = λ l s e1 e2.
+    let t = r l s e1 e2 in
+    (t.0, t.1, t.2, t.3, p t.0 t.1 ∙ (ap (run k) t.4 ∙ sym (run-sum d k (state old l s))))
 
 whole_of : (e : Ending) (n : ℕ) (old new : Core) (l s l' s' : List ℕ) → new.ending ≡ e →
     state new l' s' ≡ run n (state old l s) → Runs (stop_of e) n old new l s l' s'

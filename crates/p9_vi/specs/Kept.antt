@@ -1,5 +1,5 @@
 -- What every machine keeps, and what may be done to it.
-use Rattle.std.specs.Prelude.{◌≡◌, ◌<◌, ◌≤◌, ℕ, ◌+◌, ◌^◌, ◌⊎◌, length, Result, Ok, Err}
+use Rattle.std.specs.Prelude.{◌≡◌, ◌<◌, ◌≤◌, ℕ, false, ◌+◌, ◌^◌, ◌⊎◌, length, Result, Ok, Err}
 use Rattle.p9_r3k.specs.declared.halt.HaltCause.{HaltCause}
 use Rattle.p9_r3k.specs.declared.halt.Ending.{Ending}
 use Rattle.p9_r3k.specs.declared.halt.Ending.TheVariants.{Running, Exited, Halted}
@@ -16,6 +16,10 @@ ExitFits (Exited at length) low =
     (at < stack_start → (length ≡ 0) ⊎ ((text_start ≤ at) × (at + length ≤ text_start + low)))
     × (stack_start ≤ at → at + length ≤ stack_end)
 ExitFits (Halted cause pc) low = Unit {0}
+
+-- no hazard can come at the next instruction
+abbrev pub IsClear : Core → Type 0
+IsClear core = (core.loaded ≡ 0) × (core.slot ≡ false) × (core.used ≡ false) × (core.used_before ≡ false)
 
 -- an effect that may be applied
 abbrev pub CanApply : Effect → Core → Type 0

@@ -5,7 +5,7 @@ use Rattle.p9_base.specs.Calls.{Failing, Input, Out}
 use Rattle.p9_r3k.specs.declared.halt.Asked.{Asked}
 use Rattle.p9_r3k.specs.declared.halt.Asked.TheVariants as asks
 use Rattle.p9_r3k.specs.Memory.{Core, bytes_from, over, with_bytes}
-use Rattle.p9_r3k.specs.Machine.{state, step, asked, called, answered}
+use Rattle.p9_r3k.specs.Machine.{state, step, run, asked, called, answered}
 use Rattle.p9_vi.specs.declared.stop.Stepped.{Stepped}
 use Rattle.p9_vi.specs.declared.stop.Stepped.TheVariants.{Done, ReadFault, WriteFault}
 use Rattle.p9_vi.specs.Stops.{IsAtCall, ReadFails, WriteFails, IsBeforeRead, IsBeforeWrite}
@@ -69,6 +69,15 @@ abbrev pub Steps : Stepped → (old new : Core) → (l s l' s' : List ℕ) → T
 Steps Done old new l s l' s' = state new l' s' ≡ step (state old l s)
 Steps ReadFault old new l s l' s' = IsAtCall old × ReadFails (asked old) old new l l' × (s' ≡ s)
 Steps WriteFault old new l s l' s' = IsAtCall old × WriteFails (asked old) old s s' × (new ≡ old) × (l' ≡ l)
+
+-- a step that touches neither the input nor the output was done, or nothing was
+abbrev pub Plain : Bool → (old new : Core) → Type 0
+Plain true old new = (l s : List ℕ) → state new l s ≡ step (state old l s)
+Plain false old new = new ≡ old
+
+-- so many of these steps
+abbrev pub PlainRun : ℕ → (old new : Core) → Type 0
+PlainRun n old new = (l s : List ℕ) → state new l s ≡ run n (state old l s)
 
 abbrev pub StepStands : Stepped → (new : Core) → Type 0
 StepStands Done new = Unit {0}

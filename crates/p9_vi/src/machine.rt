@@ -19,6 +19,7 @@ mod calls;
 mod effect;
 mod fetch;
 mod memory;
+mod plain;
 
 const TEXT_START: u32 = 0x1020;
 

@@ -21,12 +21,17 @@ pub fn simulate<I: Source, O: Sink>(
         (I.faults input.old) (I.faults input.new) (O.faults out.old) (O.faults out.new) }
     ensures calls { StreamsRan I.did O.did input.old out.old input.new out.new (stop_failure result) }
 {
-    for _step in 0..budget {
+    let mut done = 0;
+    while done < budget {
+        done += m.run_plain(budget - done);
+        if done == budget {
+            return m.stop();
+        }
         if !m.is_running() {
             return m.stop();
         }
         match m.step(input, out) {
-            Stepped::Done => {}
+            Stepped::Done => done += 1,
             Stepped::ReadFault => return Stop::ReadFault,
             Stepped::WriteFault => return Stop::WriteFault,
         }

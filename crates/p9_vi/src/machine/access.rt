@@ -41,6 +41,7 @@ impl Machine {
         }
     }
 
+    #[inline(always)]
     pub(super) fn load_byte(&self, register: u32, a: u32) -> Effect
         requires { register < 32 }
         ensures exact { result ≡ load_byte self.now register a (λ b. b) }
@@ -56,6 +57,7 @@ impl Machine {
         }
     }
 
+    #[inline(always)]
     pub(super) fn load_signed_byte(&self, register: u32, a: u32) -> Effect
         requires { register < 32 }
         ensures exact { result ≡ load_byte self.now register a (sign_extended 8) }
@@ -71,6 +73,7 @@ impl Machine {
         }
     }
 
+    #[inline(always)]
     pub(super) fn load_half(&self, register: u32, a: u32) -> Effect
         requires { register < 32 }
         ensures exact { result ≡ load_half self.now register a (λ h. h) }
@@ -88,6 +91,7 @@ impl Machine {
         }
     }
 
+    #[inline(always)]
     pub(super) fn load_signed_half(&self, register: u32, a: u32) -> Effect
         requires { register < 32 }
         ensures exact { result ≡ load_half self.now register a (sign_extended 16) }
@@ -105,6 +109,7 @@ impl Machine {
         }
     }
 
+    #[inline(always)]
     pub(super) fn load_word(&self, register: u32, a: u32) -> Effect
         requires { register < 32 }
         ensures exact { result ≡ load_word self.now register a }

@@ -26,6 +26,7 @@ impl Machine {
     }
 
     // How many bytes from an address on may be read.
+    #[inline(always)]
     pub(super) fn readable(&self, a: u32) -> u32
         ensures exact { result ≡ readable self.now a }
         ensures bound { a + result < 2 ^ 32 }
@@ -69,6 +70,7 @@ impl Machine {
         }
     }
 
+    #[inline(always)]
     pub(super) fn byte(&self, a: u32) -> u32
         requires { 1 ≤ readable self.now a }
         ensures { result ≡ read_byte self.now a }
@@ -80,6 +82,7 @@ impl Machine {
         }
     }
 
+    #[inline(always)]
     pub(super) fn half(&self, a: u32) -> u32
         requires { 2 ≤ readable self.now a }
         ensures { result ≡ read_half self.now a }
@@ -91,6 +94,7 @@ impl Machine {
         }
     }
 
+    #[inline(always)]
     pub(super) fn word(&self, a: u32) -> u32
         requires { 4 ≤ readable self.now a }
         ensures { result ≡ read_word self.now a }
