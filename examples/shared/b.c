@@ -1,0 +1,3 @@
+int hello = 5;
+int world = 8;
+int both;
