@@ -9,4 +9,3 @@ pub mod FormPlays
 pub mod FormCalls
 pub mod FormObjects
 pub mod Examples
-pub mod Exits

@@ -10,7 +10,3 @@ pub mod Statements
 pub mod CRun
 pub mod Examples
 pub mod PlayLaws
-pub mod Objects
-pub mod Calls
-pub mod Run
-pub mod Laws

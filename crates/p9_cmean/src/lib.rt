@@ -2,8 +2,6 @@
 //! and the run of a program in a number of turns.
 #![tactic(auto)]
 
-ghost use Rattle.p9_cmean.specs.Laws.{RunsOfExits};
-
 mod laws;
 
 pub use laws::{
@@ -34,10 +32,3 @@ pub struct Place {
     pub module: u32,
     pub node: u32,
 }
-
-/// The law that `main` with one call of `exits` on a text is out of turns before the second, and
-/// has ended with the text from then on.
-#[tactic(auto, using(crate::proofs::Exits::runs_of_exits))]
-pub fn runs_of_exits()
-    ensures { RunsOfExits }
-{}

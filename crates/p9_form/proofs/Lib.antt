@@ -1,4 +1,5 @@
 pub mod ParseSteps
+pub mod ParseNames
 pub mod ParseMarks
 pub mod ParseStatements
 pub mod ParseDeclarations

@@ -1,9 +1,9 @@
 -- Statements one after the other, up to a closing brace.
-use Rattle.std.proofs.Common.{◌≡◌, ℕ, zero, suc, ◌+◌, ◌<◌, ◌≤◌, List, [], ◌∷◌, ◌++◌, length, length-append, Option, Some, None, refl, ap, ◌∙◌, sym, subst, append_assoc, arith}
-use Rattle.p9_lang.specs.Tokens.{Token, Word, Mark}
+use Rattle.std.proofs.Common.{◌≡◌, ℕ, ◌<◌, List, [], ◌∷◌, ◌++◌, length, length-append, Some, None, refl, ap, ◌∙◌, sym, subst, append_assoc, arith}
+use Rattle.p9_lang.specs.Tokens.{Token}
 use Rattle.p9_form.specs.declared.file.Statement.{Statement}
 use Rattle.p9_form.specs.declared.file.Statement.TheVariants.{Assign, Write, Exits}
-use Rattle.p9_form.specs.Reading.{Got, got, read_mark, read_statement}
+use Rattle.p9_form.specs.Reading.{got, read_mark, read_statement}
 use Rattle.p9_form.specs.Phrases.{mark, statement_tokens, statements_tokens, StatementFits, StatementsFit}
 use Rattle.p9_form.specs.Found.{IsBody, HasNoBody}
 use Rattle.p9_form.proofs.ParseMarks.{mark_sound, mark_exact}

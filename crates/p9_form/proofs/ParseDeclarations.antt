@@ -1,15 +1,15 @@
 -- What is read of declarations stands there and fits, and what fits is read.
 use Rattle.std.proofs.Common.{◌≡◌, ℕ, ◌≤◌, Bool, true, false, not, ◌&&◌, IsTrue, List, [], ◌∷◌, ◌++◌, Option, Some, None, refl, ap, ◌∙◌, sym, subst, codes}
 use Rattle.std.specs.Prelude.{if◌then◌else◌}
-use Rattle.p9_lang.specs.Tokens.{Token, Word, Number, Character, Text, Mark, End}
+use Rattle.p9_lang.specs.Tokens.{Token, Word, Number}
 use Rattle.p9_lang.specs.Form.{same_name, is_among, is_variable_name}
 use Rattle.p9_form.specs.declared.file.First.{First}
 use Rattle.p9_form.specs.declared.file.First.TheVariants as first
 use Rattle.p9_form.specs.declared.file.Declaration.{Declaration}
-use Rattle.p9_form.specs.Reading.{Got, got, after, read_mark, read_number, read_this, read_type, read_new_name, value_behind, read_value, read_first, read_typed, declaration_behind, read_declaration, read_name_of_main, read_head}
+use Rattle.p9_form.specs.Reading.{Got, got, after, read_mark, read_this, read_type, read_new_name, value_behind, read_value, read_first, read_typed, declaration_behind, read_declaration, read_name_of_main, read_head}
 use Rattle.p9_form.specs.Phrases.{mark, type_token, FirstFits, DeclarationFits, declaration_tokens, head_tokens}
 use Rattle.p9_form.proofs.ParseSteps.{after_some}
-use Rattle.p9_form.proofs.ParseMarks.{Stepped, some_after, passed, equal_names, mark_sound, mark_exact, number_sound, number_exact, this_sound, this_exact}
+use Rattle.p9_form.proofs.ParseMarks.{some_after, passed, equal_names, mark_sound, mark_exact, number_sound, number_exact, this_sound, this_exact}
 
 same_got : {A : Type 0} (x y : A) (ts us : List Token) → Some (got x ts) ≡ Some (got y us) → (x ≡ y) × (ts ≡ us)
 same_got x y ts us e =

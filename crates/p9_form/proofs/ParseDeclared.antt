@@ -1,11 +1,12 @@
 -- Declarations one after the other.
-use Rattle.std.proofs.Common.{◌≡◌, ℕ, zero, suc, ◌+◌, ◌<◌, ◌≤◌, Bool, true, false, List, [], ◌∷◌, ◌++◌, length, length-append, Option, Some, None, refl, ap, ◌∙◌, sym, subst, append_assoc, arith}
-use Rattle.p9_lang.specs.Tokens.{Token, Word, Mark, End}
+use Rattle.std.proofs.Common.{◌≡◌, ℕ, ◌<◌, Bool, true, false, not, ◌&&◌, List, [], ◌∷◌, ◌++◌, length, length-append, Some, None, refl, ap, ◌∙◌, sym, subst, append_assoc, arith}
+use Rattle.p9_lang.specs.Tokens.{Token, End}
+use Rattle.p9_lang.specs.Form.{is_among, is_variable_name}
 use Rattle.p9_form.specs.declared.file.First.{First}
 use Rattle.p9_form.specs.declared.file.First.TheVariants as first
 use Rattle.p9_form.specs.declared.file.Declaration.{Declaration}
-use Rattle.p9_form.specs.Reading.{Got, got, read_declaration}
-use Rattle.p9_form.specs.Phrases.{mark, declaration_tokens, declarations_tokens, DeclarationFits, DeclarationsFit, declared}
+use Rattle.p9_form.specs.Reading.{got, read_declaration}
+use Rattle.p9_form.specs.Phrases.{declaration_tokens, declarations_tokens, DeclarationFits, DeclarationsFit, declared}
 use Rattle.p9_form.specs.Found.{begins_declaration, is_end, AreDeclared, HasNoDeclarations}
 use Rattle.p9_form.proofs.ParseDeclarations.{declaration_sound, declaration_exact}
 
@@ -143,3 +144,14 @@ pub none_at_end : (names : List (List ℕ)) (ts : List Token) (ds : List Declara
 none_at_end names ts [] rest a e = refl
 none_at_end names ts (d ∷ ds) rest a e =
     absurd (stands d (declarations_tokens ds ++ rest) ts (sym (append_assoc (declaration_tokens d) (declarations_tokens ds) rest) ∙ sym a.is) (begins_at_end ts e))
+
+not_among : (b c : Bool) → (b && not c) ≡ true → c ≡ false
+not_among true false e = refl
+not_among true true e = sym e
+not_among false c e = cc
+
+-- the name of a declaration that was read is new
+pub new_name : (names : List (List ℕ)) (left : List Token) (d : Declaration) (next : List Token) (name : List ℕ) → read_declaration names left ≡ Some (got d next) → name ≡ d.name → is_among names name ≡ false
+new_name names left d next name e copy =
+    let sound = declaration_sound names left (got d next) e in
+    ap (is_among names) copy ∙ not_among (is_variable_name d.name) (is_among names d.name) sound.0.0

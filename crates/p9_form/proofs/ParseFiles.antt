@@ -1,11 +1,11 @@
 -- Whole files.
-use Rattle.std.proofs.Common.{◌≡◌, ℕ, Bool, true, false, List, [], ◌∷◌, ◌++◌, Option, Some, None, refl, ap, ◌∙◌, sym, subst, append_assoc, codes}
-use Rattle.p9_lang.specs.Tokens.{Token, Word, Mark, End}
+use Rattle.std.proofs.Common.{◌≡◌, ℕ, true, false, List, [], ◌∷◌, ◌++◌, Option, Some, None, refl, ap, ◌∙◌, sym, subst, append_assoc}
+use Rattle.p9_lang.specs.Tokens.{Token, End}
 use Rattle.p9_form.specs.declared.file.Statement.{Statement}
 use Rattle.p9_form.specs.declared.file.Declaration.{Declaration}
 use Rattle.p9_form.specs.declared.file.File.{File}
 use Rattle.p9_form.specs.Reading.{read_head}
-use Rattle.p9_form.specs.Phrases.{mark, head_tokens, statements_tokens, StatementsFit, declarations_tokens, DeclarationsFit, declared, main_tokens, MainFits, written, FileFits}
+use Rattle.p9_form.specs.Phrases.{mark, head_tokens, statements_tokens, StatementsFit, declarations_tokens, DeclarationsFit, declared, main_tokens}
 use Rattle.p9_form.specs.Found.{IsBody, HasNoBody, begins_declaration, AreDeclared, HasNoDeclarations, is_end, IsMainPart, HasNoMainPart, IsWritten, IsNotWritten}
 use Rattle.p9_form.proofs.ParseDeclarations.{head_sound, head_exact}
 use Rattle.p9_form.proofs.ParseBodies.{same_body}

@@ -1,5 +1,5 @@
 -- The tokens of each file of the form are such as the scanner finds.
-use Rattle.std.proofs.Common.{◌≡◌, ℕ, ◌≤◌, Bool, true, false, List, [], ◌∷◌, ◌++◌, Option, Some, None, Result, Ok, Err, IsSome, IfOk, refl, ap, ◌∙◌, subst, sym, arith}
+use Rattle.std.proofs.Common.{◌≡◌, ℕ, Bool, true, false, List, [], ◌∷◌, ◌++◌, Option, Some, None, Result, Ok, Err, IsSome, IfOk, refl, ap, ◌∙◌, subst, sym, arith}
 use Rattle.std.specs.Prelude.{IsSomeAnd}
 use Rattle.p9_base.specs.declared.bytes.NoMemory.{NoMemory}
 use Rattle.p9_lang.specs.Trees.{SyntaxRow}
@@ -14,10 +14,10 @@ use Rattle.p9_form.specs.declared.file.First.TheVariants as first
 use Rattle.p9_form.specs.declared.file.Declaration.{Declaration}
 use Rattle.p9_form.specs.declared.file.File.{File}
 use Rattle.p9_form.specs.declared.token.Token as code
-use Rattle.p9_form.specs.Spelling.{Spells, HasForm, HasNoForm}
+use Rattle.p9_form.specs.Spelling.{Spells, HasNoForm}
 use Rattle.p9_form.specs.Scanning.{seen, IsFormToken, AreFormTokens}
-use Rattle.p9_form.specs.Phrases.{mark, operand_token, right_tokens, exit_token, statement_tokens, statements_tokens, OperandFits, RightFits, StatementFits, StatementsFit, declaration_tokens, declarations_tokens, FirstFits, DeclarationFits, DeclarationsFit, declared, main_tokens, MainFits, written, FileFits}
-use Rattle.p9_form.proofs.ParseItems.{FileOf, file_of}
+use Rattle.p9_form.specs.Phrases.{mark, operand_token, right_tokens, statement_tokens, statements_tokens, OperandFits, RightFits, StatementFits, StatementsFit, declaration_tokens, declarations_tokens, FirstFits, DeclarationsFit, declared, main_tokens, MainFits, written, FileFits}
+use Rattle.p9_form.proofs.ParseItems.{file_of}
 
 -- tokens that stand before the end
 abbrev AreInner : List Token → Type 0

@@ -1,11 +1,11 @@
 -- Each row of trees of the form is that of a file that fits.
-use Rattle.std.proofs.Common.{◌≡◌, ℕ, zero, suc, ◌+◌, ◌≤◌, Bool, true, false, not, ◌&&◌, IsTrue, List, [], ◌∷◌, ◌++◌, Option, Some, None, refl, ap, ◌∙◌, sym, subst, append_assoc, append-nil, codes, flat_map, ◌⊎◌, inl, inr}
+use Rattle.std.proofs.Common.{◌≡◌, ℕ, suc, ◌≤◌, Bool, true, false, not, ◌&&◌, IsTrue, List, [], ◌∷◌, ◌++◌, Option, Some, None, refl, ap, ◌∙◌, sym, subst, append_assoc, append-nil, codes, flat_map, ◌⊎◌, inl, inr}
 use Rattle.p9_lang.specs.declared.tree.CBinary.TheVariants as operator
 use Rattle.p9_lang.specs.declared.tree.SpecWord.{SpecWord}
 use Rattle.p9_lang.specs.declared.tree.SpecWord.TheVariants as word
 use Rattle.p9_lang.specs.declared.tree.Kind.TheVariants as kind
 use Rattle.p9_lang.specs.Trees.{node, none, more, Syntax, SyntaxRow}
-use Rattle.p9_lang.specs.Tokens.{Token, Word, Number, Text, Mark, End, spec_tokens, tokens, tokens_from, file_tokens}
+use Rattle.p9_lang.specs.Tokens.{Token, Word, Number, Text, End, spec_tokens, tokens, tokens_from, file_tokens}
 use Rattle.p9_lang.specs.Form.{IsVariable, IsOperand, IsSum, Names, IsExactly, IsText, IsExitText, IsEffect, IsStatement, AreStatements, IsNumberType, IsVariableHead, IsNewName, IsNumber, IsDeclaration, IsMainHead, IsBody, IsMain, is_among, is_variable_name, names_after, name_in, AreDeclarations, AreItems, IsFile}
 use Rattle.p9_form.specs.declared.file.Operand.{Operand}
 use Rattle.p9_form.specs.declared.file.Operand.TheVariants as operand
@@ -15,8 +15,8 @@ use Rattle.p9_form.specs.declared.file.First.{First}
 use Rattle.p9_form.specs.declared.file.First.TheVariants as first
 use Rattle.p9_form.specs.declared.file.Declaration.{Declaration}
 use Rattle.p9_form.specs.declared.file.File.{File}
-use Rattle.p9_form.specs.Phrases.{mark, operand_token, right_tokens, exit_token, statement_tokens, statements_tokens, OperandFits, RightFits, TextFits, ExitFits, StatementFits, StatementsFit, type_token, declaration_tokens, declarations_tokens, FirstFits, DeclarationFits, DeclarationsFit, declared, head_tokens, main_tokens, written, MainFits, FileFits}
-use Rattle.p9_form.specs.Found.{IsWritten, IsNotWritten}
+use Rattle.p9_form.specs.Phrases.{mark, operand_token, right_tokens, exit_token, statement_tokens, statements_tokens, OperandFits, RightFits, TextFits, ExitFits, StatementFits, StatementsFit, type_token, declaration_tokens, declarations_tokens, FirstFits, DeclarationFits, DeclarationsFit, declared, main_tokens, written, MainFits, FileFits}
+use Rattle.p9_form.specs.Found.{IsNotWritten}
 
 -- Expressions
 
@@ -103,7 +103,7 @@ effect_of names (node (kind.Assign None) at (more place (more value none))) h =
       value = Assign x.name s.left s.right;
       fits = (x.fits, s.left_fits, s.right_fits);
       is = ap (λ v. (v ++ (mark 61 ∷ (tokens value ++ []))) ++ mark 59 ∷ []) x.is
-      ∙ ap (λ v. Word x.name ∷ mark 61 ∷ (v ++ mark 59 ∷ [])) (append-nil (tokens value) ∙ s.is);
+          ∙ ap (λ v. Word x.name ∷ mark 61 ∷ (v ++ mark 59 ∷ [])) (append-nil (tokens value) ∙ s.is);
     }
 effect_of names (node kind.Call at (more f (more text none))) h =
     let t = exit_of text h.1 in
@@ -111,7 +111,7 @@ effect_of names (node kind.Call at (more f (more text none))) h =
       value = Exits t.text;
       fits = t.fits;
       is = ap (λ v. (v ++ (mark 40 ∷ (tokens text ++ mark 41 ∷ []))) ++ mark 59 ∷ []) (function_of (codes "exits") f h.0)
-      ∙ ap (λ v. Word (codes "exits") ∷ mark 40 ∷ ((v ++ mark 41 ∷ []) ++ mark 59 ∷ [])) t.is;
+          ∙ ap (λ v. Word (codes "exits") ∷ mark 40 ∷ ((v ++ mark 41 ∷ []) ++ mark 59 ∷ [])) t.is;
     }
 effect_of names (node kind.Call at (more f (more descriptor (more text (more count none))))) h =
     let t = text_of text h.2 in
@@ -120,9 +120,9 @@ effect_of names (node kind.Call at (more f (more descriptor (more text (more cou
       value = Write t.text c.value;
       fits = (t.fits, c.fits);
       is = ap (λ v. (v ++ (mark 40 ∷ (tokens descriptor ++ (mark 44 ∷ (tokens text ++ (mark 44 ∷ (tokens count ++ mark 41 ∷ []))))))) ++ mark 59 ∷ []) (function_of (codes "write") f h.0)
-      ∙ ap (λ v. Word (codes "write") ∷ mark 40 ∷ ((v ++ (mark 44 ∷ (tokens text ++ (mark 44 ∷ (tokens count ++ mark 41 ∷ []))))) ++ mark 59 ∷ [])) (number_of 1 descriptor h.1)
-      ∙ ap (λ v. Word (codes "write") ∷ mark 40 ∷ Number 1 false false ∷ mark 44 ∷ ((v ++ (mark 44 ∷ (tokens count ++ mark 41 ∷ []))) ++ mark 59 ∷ [])) t.is
-      ∙ ap (λ v. Word (codes "write") ∷ mark 40 ∷ Number 1 false false ∷ mark 44 ∷ Text t.text ∷ mark 44 ∷ ((v ++ mark 41 ∷ []) ++ mark 59 ∷ [])) c.is;
+          ∙ ap (λ v. Word (codes "write") ∷ mark 40 ∷ ((v ++ (mark 44 ∷ (tokens text ++ (mark 44 ∷ (tokens count ++ mark 41 ∷ []))))) ++ mark 59 ∷ [])) (number_of 1 descriptor h.1)
+          ∙ ap (λ v. Word (codes "write") ∷ mark 40 ∷ Number 1 false false ∷ mark 44 ∷ ((v ++ (mark 44 ∷ (tokens count ++ mark 41 ∷ []))) ++ mark 59 ∷ [])) t.is
+          ∙ ap (λ v. Word (codes "write") ∷ mark 40 ∷ Number 1 false false ∷ mark 44 ∷ Text t.text ∷ mark 44 ∷ ((v ++ mark 41 ∷ []) ++ mark 59 ∷ [])) c.is;
     }
 effect_of names _ h = absurd h
 
@@ -146,8 +146,8 @@ statements_of names i (more first others) h =
       list = s.value ∷ ss.list;
       fit = (s.fits, ss.fit);
       is = ap (λ v. v ++ tokens_from kind.Block (suc i) others) s.is
-      ∙ ap (λ v. statement_tokens s.value ++ v) ss.is
-      ∙ sym (append_assoc (statement_tokens s.value) (statements_tokens ss.list) (mark 125 ∷ []));
+          ∙ ap (λ v. statement_tokens s.value ++ v) ss.is
+          ∙ sym (append_assoc (statement_tokens s.value) (statements_tokens ss.list) (mark 125 ∷ []));
     }
 
 -- Declarations
@@ -226,8 +226,8 @@ declaration_of names (node (kind.Declaration spec (true ∷ [])) at (more name (
       fits = (x.fits, n.small);
       named = x.named;
       is = ap (λ v. v ++ (tokens name ++ (mark 61 ∷ (tokens value ++ mark 59 ∷ [])))) t.is
-      ∙ ap (λ v. type_token t.is_long ∷ (v ++ (mark 61 ∷ (tokens value ++ mark 59 ∷ [])))) x.is
-      ∙ ap (λ v. type_token t.is_long ∷ Word x.name ∷ mark 61 ∷ (v ++ mark 59 ∷ [])) n.is;
+          ∙ ap (λ v. type_token t.is_long ∷ (v ++ (mark 61 ∷ (tokens value ++ mark 59 ∷ [])))) x.is
+          ∙ ap (λ v. type_token t.is_long ∷ Word x.name ∷ mark 61 ∷ (v ++ mark 59 ∷ [])) n.is;
     }
 declaration_of names _ h = absurd h
 
@@ -276,8 +276,8 @@ main_of names (node (kind.Function spec) at (more head (more body none))) h =
       list = b.list;
       fit = b.fit;
       is = ap (λ words. flat_map spec_tokens words ++ (tokens head ++ (tokens body ++ []))) h.0
-      ∙ ap (λ v. Word (codes "void") ∷ (v ++ (tokens body ++ []))) (main_head_of head h.1)
-      ∙ ap (λ v. Word (codes "void") ∷ Word (codes "main") ∷ mark 40 ∷ Word (codes "void") ∷ mark 41 ∷ v) (append-nil (tokens body) ∙ b.is);
+          ∙ ap (λ v. Word (codes "void") ∷ (v ++ (tokens body ++ []))) (main_head_of head h.1)
+          ∙ ap (λ v. Word (codes "void") ∷ Word (codes "main") ∷ mark 40 ∷ Word (codes "void") ∷ mark 41 ∷ v) (append-nil (tokens body) ∙ b.is);
     }
 main_of names _ h = absurd h
 

@@ -1,10 +1,10 @@
 -- What is read of single tokens stands there, and what stands there is read.
-use Rattle.std.proofs.Common.{◌≡◌, ℕ, ◌≤◌, Bool, true, false, ◌&&◌, ◌==◌, IsTrue, cond, List, [], ◌∷◌, Option, Some, None, refl, ap, ◌∙◌, sym, subst, arith, true≢false}
+use Rattle.std.proofs.Common.{◌≡◌, ℕ, ◌≤◌, Bool, true, false, ◌&&◌, ◌==◌, IsTrue, List, [], ◌∷◌, Option, Some, None, refl, ap, ◌∙◌, sym, subst, arith}
 use Rattle.std.specs.Prelude.{if◌then◌else◌, nat_le}
 use Rattle.std.specs.List.{list_all}
 use Rattle.std.proofs.lemmas.Bool.Decides.{nat_tests}
-use Rattle.p9_lang.specs.Tokens.{Token, Word, Number, Character, Text, Mark, End}
-use Rattle.p9_lang.specs.Form.{same_name, is_among, is_text_byte}
+use Rattle.p9_lang.specs.Tokens.{Token, Word, Number, Text, Mark}
+use Rattle.p9_lang.specs.Form.{same_name, is_text_byte}
 use Rattle.p9_form.specs.Reading.{Got, got, after, is_that_mark, read_mark, read_word, read_number, read_text, is_that_word, read_this}
 use Rattle.p9_form.specs.Phrases.{mark}
 

@@ -1,6 +1,6 @@
 -- A file weighs at least its data and the number of its statements.
-use Rattle.std.proofs.Common.{◌≡◌, ℕ, zero, suc, ◌+◌, ◌-◌, ◌*◌, ◌%◌, ◌≤◌, Bool, true, false, List, [], ◌∷◌, ◌++◌, length, Option, Some, None, refl, ap, ◌∙◌, sym, subst, codes, arith}
-use Rattle.p9_lang.specs.Tokens.{Token, Word, Number, Text, Mark, End}
+use Rattle.std.proofs.Common.{◌≡◌, ℕ, ◌+◌, ◌≤◌, Bool, true, false, List, [], ◌∷◌, ◌++◌, length, Option, Some, None, ap, ◌∙◌, arith}
+use Rattle.p9_lang.specs.Tokens.{Token, End}
 use Rattle.p9_form.specs.declared.file.Operand.{Operand}
 use Rattle.p9_form.specs.declared.file.Statement.{Statement}
 use Rattle.p9_form.specs.declared.file.Statement.TheVariants.{Assign, Write, Exits}
@@ -8,9 +8,9 @@ use Rattle.p9_form.specs.declared.file.First.{First}
 use Rattle.p9_form.specs.declared.file.First.TheVariants as first
 use Rattle.p9_form.specs.declared.file.Declaration.{Declaration}
 use Rattle.p9_form.specs.declared.file.File.{File}
-use Rattle.p9_form.specs.Scanning.{weight, weights}
-use Rattle.p9_form.specs.Sharing.{declarations, statements, padded, text_size, statement_data, declared_data, statements_data, IsSmall}
-use Rattle.p9_form.specs.Phrases.{mark, operand_token, right_tokens, statement_tokens, statements_tokens, declaration_tokens, declarations_tokens, head_tokens, main_tokens, written}
+use Rattle.p9_form.specs.Scanning.{weights}
+use Rattle.p9_form.specs.Sharing.{statements, padded, statement_data, declared_data, statements_data, IsSmall}
+use Rattle.p9_form.specs.Phrases.{mark, right_tokens, statement_tokens, statements_tokens, declaration_tokens, declarations_tokens, main_tokens, written}
 use Rattle.p9_form.specs.Found.{IsWritten}
 
 weights_append : (ts us : List Token) → weights (ts ++ us) ≡ weights ts + weights us

@@ -1,17 +1,17 @@
 -- What is read of statements stands there and fits, and what fits is read.
-use Rattle.std.proofs.Common.{◌≡◌, ℕ, ◌≤◌, Bool, true, false, ◌==◌, IsTrue, List, [], ◌∷◌, ◌++◌, Option, Some, None, refl, ap, ◌∙◌, sym, subst, append_assoc, codes}
+use Rattle.std.proofs.Common.{◌≡◌, ℕ, Bool, true, false, ◌==◌, IsTrue, List, [], ◌∷◌, ◌++◌, Option, Some, None, refl, ap, ◌∙◌, sym, subst, append_assoc, codes}
 use Rattle.std.specs.Prelude.{if◌then◌else◌, nat_le}
 use Rattle.std.specs.List.{list_all}
-use Rattle.p9_lang.specs.Tokens.{Token, Word, Number, Character, Text, Mark, End}
+use Rattle.p9_lang.specs.Tokens.{Token, Word, Number, Text}
 use Rattle.p9_lang.specs.Form.{same_name, is_among, is_text_byte}
 use Rattle.p9_form.specs.declared.file.Operand.{Operand}
 use Rattle.p9_form.specs.declared.file.Operand.TheVariants as operand
 use Rattle.p9_form.specs.declared.file.Statement.{Statement}
 use Rattle.p9_form.specs.declared.file.Statement.TheVariants.{Assign, Write, Exits}
-use Rattle.p9_form.specs.Reading.{Got, got, after, read_mark, read_word, read_number, read_text, read_operand, right_behind, read_right, read_assignment, read_one, read_piece, read_write, read_exits, read_call, read_arguments, behind_name, read_behind, read_statement}
+use Rattle.p9_form.specs.Reading.{Got, got, after, read_mark, read_word, read_operand, right_behind, read_right, read_assignment, read_one, read_piece, read_write, read_exits, read_call, read_arguments, behind_name, read_behind, read_statement}
 use Rattle.p9_form.specs.Phrases.{mark, operand_token, right_tokens, exit_token, statement_tokens, OperandFits, RightFits, TextFits, ExitFits, StatementFits}
 use Rattle.p9_form.proofs.ParseSteps.{after_some}
-use Rattle.p9_form.proofs.ParseMarks.{Stepped, some_after, passed, small_number, is_small, equal_numbers, equal_names, mark_sound, mark_exact, word_sound, text_sound, text_exact}
+use Rattle.p9_form.proofs.ParseMarks.{some_after, passed, small_number, is_small, equal_numbers, equal_names, mark_sound, mark_exact, word_sound, text_sound, text_exact}
 
 -- Operands
 

@@ -1,9 +1,9 @@
 -- The trees of a file that was read: they have the form, are placed, and are written in its tokens.
-use Rattle.std.proofs.Common.{◌≡◌, ℕ, zero, suc, ◌+◌, ◌≤◌, Bool, true, false, not, ◌&&◌, IsTrue, List, [], ◌∷◌, ◌++◌, length, length-append, Option, Some, None, refl, ap, ◌∙◌, sym, subst, append_assoc, append-nil, codes, add-zero, arith}
+use Rattle.std.proofs.Common.{◌≡◌, ℕ, suc, ◌+◌, Bool, true, false, not, ◌&&◌, IsTrue, List, [], ◌∷◌, ◌++◌, length, length-append, Option, Some, None, refl, ap, ◌∙◌, sym, subst, append_assoc, append-nil, codes, arith}
 use Rattle.p9_lang.specs.declared.tree.Kind.TheVariants as kind
-use Rattle.p9_lang.specs.Trees.{node, none, more, Syntax, SyntaxRow}
-use Rattle.p9_lang.specs.Tokens.{Token, Word, Number, Text, Mark, End, tokens, tokens_from, file_tokens, front, gap}
-use Rattle.p9_lang.specs.Form.{IsOperand, IsSum, IsStatement, AreStatements, IsDeclaration, IsMain, AreDeclarations, AreItems, names_after, IsPlaced, ArePlaced, AreItemsPlaced, IsFile, is_among, is_variable_name}
+use Rattle.p9_lang.specs.Trees.{none, more, SyntaxRow}
+use Rattle.p9_lang.specs.Tokens.{Token, Word, Number, Text, End, tokens, tokens_from, file_tokens}
+use Rattle.p9_lang.specs.Form.{IsOperand, IsSum, IsStatement, AreStatements, IsDeclaration, AreDeclarations, AreItems, IsPlaced, ArePlaced, AreItemsPlaced, IsFile, is_among, is_variable_name}
 use Rattle.p9_form.specs.declared.file.Operand.{Operand}
 use Rattle.p9_form.specs.declared.file.Operand.TheVariants as operand
 use Rattle.p9_form.specs.declared.file.Statement.{Statement}
@@ -12,8 +12,8 @@ use Rattle.p9_form.specs.declared.file.First.{First}
 use Rattle.p9_form.specs.declared.file.First.TheVariants as first
 use Rattle.p9_form.specs.declared.file.Declaration.{Declaration}
 use Rattle.p9_form.specs.declared.file.File.{File}
-use Rattle.p9_form.specs.Items.{operand_tree, sum_tree, effect_tree, statement_tree, statement_size, statement_trees, statements_size, declaration_tree, declaration_size, declarations_size, declaration_trees, main_tree, main_size, main_trees, items_of}
-use Rattle.p9_form.specs.Phrases.{mark, operand_token, right_tokens, exit_token, statement_tokens, statements_tokens, OperandFits, RightFits, StatementFits, StatementsFit, declaration_tokens, declarations_tokens, FirstFits, DeclarationFits, DeclarationsFit, declared, head_tokens, main_tokens, written, MainFits, FileFits}
+use Rattle.p9_form.specs.Items.{operand_tree, sum_tree, statement_tree, statement_size, statement_trees, statements_size, declaration_tree, declaration_size, declarations_size, declaration_trees, main_tree, main_size, main_trees, items_of}
+use Rattle.p9_form.specs.Phrases.{mark, operand_token, right_tokens, statement_tokens, statements_tokens, OperandFits, RightFits, StatementFits, StatementsFit, declaration_tokens, declarations_tokens, FirstFits, DeclarationsFit, declared, head_tokens, main_tokens, written, MainFits, FileFits}
 use Rattle.p9_form.specs.Found.{IsWritten}
 
 -- Tokens of the trees
@@ -194,10 +194,11 @@ size_of_declaration at d = ap length (tokens_of_declaration at d) ∙ size_by d.
 declarations_placed : (at here : ℕ) (ds : List Declaration) (others : SyntaxRow) → at ≡ here → ((there : ℕ) → at + declarations_size ds ≡ there → AreItemsPlaced there others) → AreItemsPlaced here (declaration_trees at ds others)
 declarations_placed at here [] others e o = o here (omega arith)
 declarations_placed at here (d ∷ ds) others e o =
-    let size = size_of_declaration at d in
-    (placed_by at here d.name d.is_long d.first e,
-    declarations_placed (at + declaration_size d.first) (here + length (tokens (declaration_tree at d))) ds others (omega arith)
-    (λ there h. o there (omega arith)))
+    let size = size_of_declaration at d in (
+      placed_by at here d.name d.is_long d.first e,
+      declarations_placed (at + declaration_size d.first) (here + length (tokens (declaration_tree at d))) ds others (omega arith)
+          (λ there h. o there (omega arith)),
+    )
 
 main_placed : (at here : ℕ) (ss : List Statement) → at ≡ here → IsPlaced here (main_tree at ss)
 main_placed at here ss e =

@@ -299,3 +299,35 @@ behind_refused first more left done ts tight cut none behind = of_more behind.mo
 
 pub scanned_refused : (bytes : List ℕ) (done : List Token) (first : ℕ) (more left : List ℕ) → IsScanned bytes done left → left ≡ first ∷ more → token_at first more ≡ None → (ts : List Token) → AreFormTokens ts → Spells ts bytes → ⊥
 scanned_refused bytes done first more left is cut none ts form h = behind_refused first more left done ts is.tight cut none (is.behind ts form h)
+
+-- Bytes are spelled as tokens of the form in one way
+
+first_twice : (t u : Token) (ts us : List Token) (s : List ℕ) (i : IsFirst t ts s) (j : IsFirst u us s) → i.found ≡ j.found
+first_twice t u ts us s i j =
+    let same : i.first ∷ i.more ≡ j.first ∷ j.more = sym i.cut ∙ j.cut in
+    let same_first : i.first ≡ j.first = cc in
+    let same_more : i.more ≡ j.more = cc in
+    let at_same : Some i.found ≡ Some j.found = sym i.at_first ∙ ap (λ b. token_at b i.more) same_first ∙ ap (token_at j.first) same_more ∙ j.at_first in
+    cc
+
+end_not_first : (t : Token) (ts : List Token) (s : List ℕ) → after_blanks s ≡ [] → IsFirst t ts s → ⊥
+end_not_first t ts s e i = let never : [] ≡ i.first ∷ i.more = sym e ∙ i.cut in cc
+
+pub spelled_once : (ts us : List Token) (s : List ℕ) → AreFormTokens ts → AreFormTokens us → Spells ts s → Spells us s → ts ≡ us
+spelled_once [] us s form other h g = absurd form
+spelled_once (t ∷ ts) [] s form other h g = absurd other
+spelled_once (t ∷ ts) (u ∷ us) s form other h g = elim (first_cases t ts s form h) [
+  | inl e ↦ elim (first_cases u us s other g) [
+    | inl f ↦ (λ k. (e.0 ∙ sym f.0) k ∷ (e.1 ∙ sym f.1) k)
+    | inr j ↦ absurd (end_not_first u us s e.2 j)
+  ]
+  | inr i ↦ elim (first_cases u us s other g) [
+    | inl f ↦ absurd (end_not_first t ts s f.2 i)
+    | inr j ↦
+        (let found : i.found ≡ j.found = first_twice t u ts us s i j in
+        let token : t ≡ u = sym i.token ∙ ap (λ f. token_seen f.token) found ∙ j.token in
+        let spells : Spells us (drop i.found.length (after_blanks s)) = subst (λ f. Spells us (drop f.length (after_blanks s))) (sym found) j.spells in
+        let rest : ts ≡ us = spelled_once ts us (drop i.found.length (after_blanks s)) i.form j.form i.spells spells in
+        λ k. token k ∷ rest k)
+  ]
+]

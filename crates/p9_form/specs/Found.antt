@@ -5,7 +5,7 @@ use Rattle.p9_form.specs.declared.file.Statement.{Statement}
 use Rattle.p9_form.specs.declared.file.Declaration.{Declaration}
 use Rattle.p9_form.specs.declared.file.File.{File}
 use Rattle.p9_form.specs.Reading.{is_that_word}
-use Rattle.p9_form.specs.Phrases.{mark, statements_tokens, StatementsFit, declarations_tokens, DeclarationsFit, declared, main_tokens, written, FileFits}
+use Rattle.p9_form.specs.Phrases.{mark, statements_tokens, StatementsFit, declarations_tokens, DeclarationsFit, main_tokens, written, FileFits}
 
 -- statements, a closing brace, and then the rest
 pub record IsBody (names : List (List ℕ)) (ts : List Token) (ss : List Statement) (rest : List Token) : Type 0 where

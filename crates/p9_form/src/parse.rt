@@ -48,7 +48,11 @@ fn head(cursor: &mut Cursor) -> Result<(), Refusal>
 }
 
 // `main`, unless the end is next.
-fn main_part(alloc: Global, names: &Names, cursor: &mut Cursor) -> Result<Option<Statements>, Refusal>
+fn main_part(
+    alloc: Global,
+    names: &Names,
+    cursor: &mut Cursor,
+) -> Result<Option<Statements>, Refusal>
     ensures ok { IfOk result (λ main. IsMainPart names.now cursor.old main cursor.new) }
     ensures err { IfErr result (λ e. e ≡ NoForm → HasNoMainPart names.now cursor.old) }
 {

@@ -31,7 +31,8 @@ fn is_blank(b: u8) -> bool
     b == b' ' || (b == b'\t' || b == b'\n')
 }
 
-fn is_letter(b: u8) -> bool
+/// A letter or an underscore.
+pub(crate) fn is_letter(b: u8) -> bool
     ensures { result ≡ is_letter b }
 {
     b'a' <= b && b <= b'z' || b'A' <= b && b <= b'Z' || b == b'_'
@@ -43,7 +44,8 @@ fn is_digit(b: u8) -> bool
     b'0' <= b && b <= b'9'
 }
 
-fn is_letter_or_digit(b: u8) -> bool
+/// A letter, an underscore or a digit.
+pub(crate) fn is_letter_or_digit(b: u8) -> bool
     ensures { result ≡ is_letter_or_digit b }
 {
     is_letter(b) || is_digit(b)

@@ -1,10 +1,10 @@
-pub mod Forms
 pub mod Puts
-pub mod Runs
-pub mod Compiled
-pub mod RunLemmas
-pub mod Simulations
-pub mod Exited
 pub mod ViLemmas
-pub mod SuiteLemmas
+pub mod RunLemmas
 pub mod Ordered
+pub mod Contents
+pub mod Exited
+pub mod Shapes
+pub mod Once
+pub mod Causes
+pub mod SuiteLemmas

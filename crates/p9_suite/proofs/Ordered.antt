@@ -1,87 +1,90 @@
 -- No call is made behind one that failed.
-use Rattle.std.proofs.Common.{◌≡◌, ◌∙◌, ℕ, List, [], ◌∷◌, map, Option, Some, None, Ok, Err, inl, inr, refl, sym, ap, subst}
+use Rattle.std.proofs.Common.{◌≡◌, ◌∙◌, ℕ, List, [], ◌∷◌, ◌++◌, map, Option, Some, None, Ok, Err, inl, inr, refl, sym, ap, subst}
 use Rattle.std.proofs.lemmas.List.{map-append}
 use Rattle.p9_base.specs.Outside.{TakeCall, PutCall, FileCall, ReadCall}
 use Rattle.p9_base.specs.declared.outside.Got.TheVariants as got
 use Rattle.p9_base.specs.declared.outside.FileFault.TheVariants as fault
-use Rattle.p9_base.specs.Calls.{StreamCall, StreamsFine, StreamsEnd, Call, OnStream, OnFiles, Failing, Store, CallsEnd}
+use Rattle.p9_base.specs.Calls.{StreamCall, StreamsFine, StreamsEnd, Call, OnStream, OnFiles, Failing, Store, CallsEnd, failure, file_failure}
 use Rattle.p9_base.proofs.CallLemmas.{CallsFine-streams}
 use Rattle.p9_suite.specs.declared.answer.Answer.{Answer}
-use Rattle.p9_suite.specs.declared.answer.Answer.TheVariants.{Ended, Usage, Absent, ReadFault, WriteFault, StoreFault, Memory, Halted, Spent, BadMagic, ShortFile, BadSegment, NotBuilt}
+use Rattle.p9_suite.specs.declared.answer.Answer.TheVariants.{Ended, Usage, Twice, NoMain, MainType, Unresolved, Disagree, Absent, ReadFault, WriteFault, StoreFault, Memory, Halted, Spent, BadMagic, ShortFile, BadSegment, NotBuilt}
 use Rattle.p9_suite.specs.Answers.{status}
-use Rattle.p9_suite.specs.Commands.{Command, Run, Vi, command_of}
-use Rattle.p9_suite.specs.RunCommand.{read_file, wrote, BuildCalls, ReadsAndBuilds, RunCalls}
-use Rattle.p9_suite.specs.ViCommand.{FileCalls, ReadsAndSimulates, ViCalls}
+use Rattle.p9_suite.specs.Commands.{Command, Run, Vi, command_of, default_budget}
+use Rattle.p9_form.specs.declared.file.File.{File}
+use Rattle.p9_suite.specs.RunCommand.{ReadAll, StopsAt, StopsIn, IsUnbuilt, output_name, wrote, WritesAndSimulates, WriteCalls, BuildCalls, RunCalls}
+use Rattle.p9_suite.specs.ViCommand.{read_file, FileCalls, ReadsAndSimulates, ViCalls}
 use Rattle.p9_suite.specs.Suite.{CommandMakes, CallsMade, doing, objects, failing_at}
-use Rattle.p9_suite.proofs.RunLemmas.{run_does_at, same_objects}
+use Rattle.p9_suite.proofs.RunLemmas.{same_objects}
 
--- the calls end as the answer's status says
-abbrev Ends : Answer → List FileCall → Type 0
-Ends a calls = CallsEnd (map OnFiles calls) (failing_at (status a))
+-- calls that end so, behind one that didn't fail
+ends_behind : (call : Call) (calls : List Call) (failed : Option Failing) → failure call ≡ None → CallsEnd calls failed → CallsEnd (call ∷ calls) failed
+ends_behind call calls None fine e = (fine, e)
+ends_behind call calls (Some object) fine e = (call ∷ e.0, e.1, ap (λ c. call ∷ c) e.2, (fine, e.3), e.4)
 
 ended_so : (printed : List ℕ) → failing_at (status (Ended printed)) ≡ None
 ended_so [] = refl
 ended_so (c ∷ cs) = refl
 
-built_end : (name file text : List ℕ) (a : Answer) (behind : List FileCall) → BuildCalls text a behind → Ends a (read_file name file ∷ behind)
-built_end name file text (Ended printed) behind b =
-    subst (λ c. Ends (Ended printed) (read_file name file ∷ c)) (sym b.1)
-    (subst (λ f. CallsEnd (OnFiles (read_file name file) ∷ OnFiles (wrote b.0 (Ok tt)) ∷ []) f) (sym (ended_so printed)) (refl, (refl, tt)))
-built_end name file text Usage behind b = absurd b
-built_end name file text (Absent word) behind b = absurd b
-built_end name file text (StoreFault word) behind b =
-    subst (λ c. Ends (StoreFault word) (read_file name file ∷ c)) (sym b.2)
-    (OnFiles (read_file name file) ∷ [], OnFiles (wrote b.1 (Err fault.Failed)), refl, (refl, tt), refl)
-built_end name file text Memory behind (inl e) = subst (λ c. Ends Memory (read_file name file ∷ c)) (sym e) (refl, tt)
-built_end name file text Memory behind (inr (inl b)) = subst (λ c. Ends Memory (read_file name file ∷ c)) (sym b.1) (refl, (refl, tt))
-built_end name file text Memory behind (inr (inr b)) = subst (λ c. Ends Memory (read_file name file ∷ c)) (sym b.1) (refl, (refl, tt))
-built_end name file text ReadFault behind b = absurd b
-built_end name file text WriteFault behind b = absurd b
-built_end name file text (Halted cause pc) behind b = absurd b
-built_end name file text (Spent n) behind b = absurd b
-built_end name file text (BadMagic word m) behind b = absurd b
-built_end name file text (ShortFile word need) behind b = absurd b
-built_end name file text (BadSegment word) behind b = absurd b
-built_end name file text (NotBuilt word) behind b = absurd b
+-- Of the reads of `run`
 
-reads_end : (name : List ℕ) (a : Answer) (calls : List FileCall) → ReadsAndBuilds name a calls → Ends a calls
-reads_end name a calls b = subst (λ c. Ends a c) (sym b.3) (built_end name b.0 b.1 a b.2 b.5)
+reads_end : (names : List (List ℕ)) (files : List File) (reads : List FileCall) (behind : List Call) (failed : Option Failing) → ReadAll names files reads → CallsEnd behind failed → CallsEnd (map OnFiles reads ++ behind) failed
+reads_end [] [] reads behind failed r e = subst (λ (x : List FileCall). CallsEnd (map OnFiles x ++ behind) failed) (sym r) e
+reads_end [] (file ∷ files) reads behind failed r e = absurd r
+reads_end (name ∷ names) [] reads behind failed r e = absurd r
+reads_end (name ∷ names) (file ∷ files) reads behind failed r e =
+    subst (λ (x : List FileCall). CallsEnd (map OnFiles x ++ behind) failed) (sym r.2)
+    (ends_behind (OnFiles (read_file name r.0)) (map OnFiles r.1 ++ behind) failed refl (reads_end names files r.1 behind failed r.4 e))
 
-run_end : (name : List ℕ) (a : Answer) (calls : List FileCall) → RunCalls name a calls → Ends a calls
-run_end name (Ended printed) calls r = reads_end name (Ended printed) calls r
-run_end name Usage calls r = absurd r
-run_end name (Absent word) calls r = subst (λ c. Ends (Absent word) c) (sym r.1) (refl, tt)
-run_end name (StoreFault word) calls (inl r) = subst (λ c. Ends (StoreFault word) c) (sym r.1) ([], OnFiles (ReadCall name got.Failed), refl, tt, refl)
-run_end name (StoreFault word) calls (inr r) = reads_end name (StoreFault word) calls r
-run_end name Memory calls (inl e) = subst (λ c. Ends Memory c) (sym e) tt
-run_end name Memory calls (inr (inl e)) = subst (λ c. Ends Memory c) (sym e) (refl, tt)
-run_end name Memory calls (inr (inr r)) = reads_end name Memory calls r
-run_end name ReadFault calls r = absurd r
-run_end name WriteFault calls r = absurd r
-run_end name (Halted cause pc) calls r = absurd r
-run_end name (Spent n) calls r = absurd r
-run_end name (BadMagic word m) calls r = absurd r
-run_end name (ShortFile word need) calls r = absurd r
-run_end name (BadSegment word) calls r = absurd r
-run_end name (NotBuilt word) calls r = subst (λ c. Ends (NotBuilt word) c) (sym r.2) (refl, tt)
+stop_end : (name : List ℕ) (a : Answer) (calls : List FileCall) → StopsAt name a calls → CallsEnd (map OnFiles calls) (failing_at (status a))
+stop_end name (Absent word) calls r = subst (λ (c : List FileCall). CallsEnd (map OnFiles c) None) (sym r.1) (refl, tt)
+stop_end name (StoreFault word) calls r = subst (λ (c : List FileCall). CallsEnd (map OnFiles c) (Some Store)) (sym r.1) ([], OnFiles (ReadCall name got.Failed), refl, tt, refl)
+stop_end name Memory calls (inl e) = subst (λ (c : List FileCall). CallsEnd (map OnFiles c) None) (sym e) tt
+stop_end name Memory calls (inr (inl e)) = subst (λ (c : List FileCall). CallsEnd (map OnFiles c) None) (sym e) (refl, tt)
+stop_end name Memory calls (inr (inr e)) = subst (λ (c : List FileCall). CallsEnd (map OnFiles c) None) (sym e.1) (refl, tt)
+stop_end name (NotBuilt word) calls r = subst (λ (c : List FileCall). CallsEnd (map OnFiles c) None) (sym r.2) (refl, tt)
+stop_end name (Ended printed) calls r = absurd r
+stop_end name Usage calls r = absurd r
+stop_end name (Twice x i j) calls r = absurd r
+stop_end name NoMain calls r = absurd r
+stop_end name (MainType i) calls r = absurd r
+stop_end name (Unresolved x i) calls r = absurd r
+stop_end name (Disagree x i j) calls r = absurd r
+stop_end name ReadFault calls r = absurd r
+stop_end name WriteFault calls r = absurd r
+stop_end name (Halted cause pc) calls r = absurd r
+stop_end name (Spent n) calls r = absurd r
+stop_end name (BadMagic word m) calls r = absurd r
+stop_end name (ShortFile word need) calls r = absurd r
+stop_end name (BadSegment word) calls r = absurd r
+
+stops_end : (names : List (List ℕ)) (a : Answer) (calls : List FileCall) → StopsIn names a calls → CallsEnd (map OnFiles calls) (failing_at (status a))
+stops_end [] a calls s = absurd s
+stops_end (name ∷ names) a calls (inl s) = stop_end name a calls s
+stops_end (name ∷ names) a calls (inr s) =
+    subst (λ (c : List FileCall). CallsEnd (map OnFiles c) (failing_at (status a))) (sym s.3)
+    (ends_behind (OnFiles (read_file name s.1)) (map OnFiles s.2) (failing_at (status a)) refl (stops_end names a s.2 s.5))
 
 -- Of `vi`
 
--- a read that was answered, and calls on the source and the sink that end so
-streams_end : (name file : List ℕ) (calls : List StreamCall) (failed : Option Failing) → StreamsEnd calls failed → CallsEnd (OnFiles (read_file name file) ∷ map OnStream calls) failed
-streams_end name file calls None fine = (refl, CallsFine-streams calls fine)
-streams_end name file calls (Some object) (before, last, is, fine, failed) =
-    let first : Call = OnFiles (read_file name file) in (
-      first ∷ map OnStream before,
-      OnStream last,
-      ap (λ c. first ∷ map OnStream c) is ∙ ap (λ c. first ∷ c) (map-append OnStream before (last ∷ [])),
-      (refl, CallsFine-streams before fine),
-      failed,
-    )
+-- a call that didn't fail, and calls on the source and the sink that end so
+streams_end : (first : FileCall) (calls : List StreamCall) (failed : Option Failing) → file_failure first ≡ None → StreamsEnd calls failed → CallsEnd (OnFiles first ∷ map OnStream calls) failed
+streams_end first calls None none fine = (none, CallsFine-streams calls fine)
+streams_end first calls (Some object) none (before, last, is, fine, failed) = (
+  OnFiles first ∷ map OnStream before,
+  OnStream last,
+  ap (λ c. OnFiles first ∷ map OnStream c) is ∙ ap (λ c. OnFiles first ∷ c) (map-append OnStream before (last ∷ [])),
+  (none, CallsFine-streams before fine),
+  failed,
+)
 
 file_end : (name file : List ℕ) (budget : ℕ) (a : Answer) (calls : List StreamCall) → FileCalls name file budget a calls → StreamsEnd calls (failing_at (status a))
 file_end name file budget (Ended printed) calls c = subst (λ f. StreamsEnd calls f) (sym (ended_so printed)) c.1
 file_end name file budget Usage calls c = absurd c
+file_end name file budget (Twice x m n) calls c = absurd c
+file_end name file budget NoMain calls c = absurd c
+file_end name file budget (MainType m) calls c = absurd c
+file_end name file budget (Unresolved x m) calls c = absurd c
+file_end name file budget (Disagree x m n) calls c = absurd c
 file_end name file budget (Absent word) calls c = absurd c
 file_end name file budget ReadFault calls c = c.1
 file_end name file budget WriteFault calls c = c.1
@@ -96,11 +99,16 @@ file_end name file budget (NotBuilt word) calls c = absurd c
 
 simulated_end : (name : List ℕ) (budget : ℕ) (a : Answer) (calls : List Call) → ReadsAndSimulates name budget a calls → CallsEnd calls (failing_at (status a))
 simulated_end name budget a calls r =
-    subst (λ x. CallsEnd x (failing_at (status a))) (sym r.2) (streams_end name r.0 r.1 (failing_at (status a)) (file_end name r.0 budget a r.1 r.3))
+    subst (λ x. CallsEnd x (failing_at (status a))) (sym r.2) (streams_end (read_file name r.0) r.1 (failing_at (status a)) refl (file_end name r.0 budget a r.1 r.3))
 
 pub vi_end : (name : List ℕ) (budget : ℕ) (a : Answer) (calls : List Call) → ViCalls name budget a calls → CallsEnd calls (failing_at (status a))
 vi_end name budget (Ended printed) calls r = simulated_end name budget (Ended printed) calls r
 vi_end name budget Usage calls r = absurd r
+vi_end name budget (Twice x m n) calls r = absurd r
+vi_end name budget NoMain calls r = absurd r
+vi_end name budget (MainType m) calls r = absurd r
+vi_end name budget (Unresolved x m) calls r = absurd r
+vi_end name budget (Disagree x m n) calls r = absurd r
 vi_end name budget (Absent word) calls r = subst (λ x. CallsEnd x None) (sym r.1) (refl, tt)
 vi_end name budget ReadFault calls r = simulated_end name budget ReadFault calls r
 vi_end name budget WriteFault calls r = simulated_end name budget WriteFault calls r
@@ -115,15 +123,74 @@ vi_end name budget (ShortFile word need) calls r = simulated_end name budget (Sh
 vi_end name budget (BadSegment word) calls r = simulated_end name budget (BadSegment word) calls r
 vi_end name budget (NotBuilt word) calls r = absurd r
 
+-- Of the executable of `run`
+
+written_end : (bytes : List ℕ) (a : Answer) (calls : List Call) → WritesAndSimulates bytes a calls → CallsEnd calls (failing_at (status a))
+written_end bytes a calls r =
+    subst (λ x. CallsEnd x (failing_at (status a))) (sym r.1)
+    (streams_end (wrote bytes (Ok tt)) r.0 (failing_at (status a)) refl (file_end output_name bytes default_budget a r.0 r.2))
+
+write_end : (bytes : List ℕ) (a : Answer) (calls : List Call) → WriteCalls bytes a calls → CallsEnd calls (failing_at (status a))
+write_end bytes (Ended printed) calls r = written_end bytes (Ended printed) calls r
+write_end bytes ReadFault calls r = written_end bytes ReadFault calls r
+write_end bytes WriteFault calls r = written_end bytes WriteFault calls r
+write_end bytes (StoreFault word) calls r = subst (λ x. CallsEnd x (Some Store)) (sym r.1) ([], OnFiles (wrote bytes (Err fault.Failed)), refl, tt, refl)
+write_end bytes Memory calls (inl e) = subst (λ x. CallsEnd x None) (sym e) tt
+write_end bytes Memory calls (inr (inl e)) = subst (λ x. CallsEnd x None) (sym e) (refl, tt)
+write_end bytes Memory calls (inr (inr e)) = subst (λ x. CallsEnd x None) (sym e) (refl, tt)
+write_end bytes (Halted cause pc) calls r = written_end bytes (Halted cause pc) calls r
+write_end bytes (Spent n) calls r = written_end bytes (Spent n) calls r
+write_end bytes Usage calls r = absurd r
+write_end bytes (Twice x i j) calls r = absurd r
+write_end bytes NoMain calls r = absurd r
+write_end bytes (MainType i) calls r = absurd r
+write_end bytes (Unresolved x i) calls r = absurd r
+write_end bytes (Disagree x i j) calls r = absurd r
+write_end bytes (Absent word) calls r = absurd r
+write_end bytes (BadMagic word m) calls r = absurd r
+write_end bytes (ShortFile word need) calls r = absurd r
+write_end bytes (BadSegment word) calls r = absurd r
+write_end bytes (NotBuilt word) calls r = absurd r
+
+-- files that aren't built are no failure of a call
+unbuilt_fine : (files : List File) (a : Answer) → IsUnbuilt files a → failing_at (status a) ≡ None
+unbuilt_fine files Memory u = refl
+unbuilt_fine files (Twice x i j) u = refl
+unbuilt_fine files NoMain u = refl
+unbuilt_fine files (MainType i) u = refl
+unbuilt_fine files (Unresolved x i) u = refl
+unbuilt_fine files (Disagree x i j) u = refl
+unbuilt_fine files (Ended printed) u = absurd u
+unbuilt_fine files Usage u = absurd u
+unbuilt_fine files (Absent word) u = absurd u
+unbuilt_fine files ReadFault u = absurd u
+unbuilt_fine files WriteFault u = absurd u
+unbuilt_fine files (StoreFault word) u = absurd u
+unbuilt_fine files (Halted cause pc) u = absurd u
+unbuilt_fine files (Spent n) u = absurd u
+unbuilt_fine files (BadMagic word m) u = absurd u
+unbuilt_fine files (ShortFile word need) u = absurd u
+unbuilt_fine files (BadSegment word) u = absurd u
+unbuilt_fine files (NotBuilt word) u = absurd u
+
+build_end : (Tells : List ℕ → Answer → Type 0) (files : List File) (a : Answer) (calls : List Call) → BuildCalls Tells files a calls → CallsEnd calls (failing_at (status a))
+build_end Tells files a calls (inl u) =
+    subst (λ x. CallsEnd x (failing_at (status a))) (sym u.1) (subst (λ f. CallsEnd [] f) (sym (unbuilt_fine files a u.0)) tt)
+build_end Tells files a calls (inr b) = write_end b.0 a calls b.2
+
+run_end : (Tells : List ℕ → Answer → Type 0) (names : List (List ℕ)) (a : Answer) (calls : List Call) → RunCalls Tells names a calls → CallsEnd calls (failing_at (status a))
+run_end Tells names a calls (inl s) = subst (λ x. CallsEnd x (failing_at (status a))) (sym s.1) (stops_end names a s.0 s.2)
+run_end Tells names a calls (inr r) =
+    subst (λ x. CallsEnd x (failing_at (status a))) (sym r.3)
+    (reads_end names r.0 r.1 r.2 (failing_at (status a)) r.4 (build_end Tells r.0 a r.2 r.5))
+
 -- Of every command
 
-pub calls_made : {I O F : Type 0} (takes : I → TakeCall → I → Type 0) (puts : O → PutCall → O → Type 0) (stores : F → FileCall → F → Type 0) (i : I) (o : O) (f : F) (j : I) (p : O) (g : F) (words : List (List ℕ)) (a : Answer) (s : ℕ) → CommandMakes takes puts stores i o f j p g (command_of words) a → s ≡ status a → CallsMade (doing takes puts stores) (objects i o f) (objects j p g) s
-calls_made takes puts stores i o f j p g words a s c e = subst (λ n. CallsMade (doing takes puts stores) (objects i o f) (objects j p g) n) (sym e) (by_command (command_of words) c)
+pub calls_made : {I O F : Type 0} (takes : I → TakeCall → I → Type 0) (puts : O → PutCall → O → Type 0) (stores : F → FileCall → F → Type 0) (i : I) (o : O) (f : F) (j : I) (p : O) (g : F) (Tells : List ℕ → Answer → Type 0) (words : List (List ℕ)) (a : Answer) (s : ℕ) → CommandMakes takes puts stores i o f j p g Tells (command_of words) a → s ≡ status a → CallsMade (doing takes puts stores) (objects i o f) (objects j p g) s
+calls_made takes puts stores i o f j p g Tells words a s c e = subst (λ n. CallsMade (doing takes puts stores) (objects i o f) (objects j p g) n) (sym e) (by_command (command_of words) c)
   where
-    by_command : (c : Option Command) → CommandMakes takes puts stores i o f j p g c a → CallsMade (doing takes puts stores) (objects i o f) (objects j p g) (status a)
+    by_command : (c : Option Command) → CommandMakes takes puts stores i o f j p g Tells c a → CallsMade (doing takes puts stores) (objects i o f) (objects j p g) (status a)
     by_command None r =
         ([], same_objects i o f j p g r.1 r.2 r.3, subst (λ (x : Answer). CallsEnd [] (failing_at (status x))) (sym r.0) tt)
-    by_command (Some (Run name)) r =
-        let d = run_does_at (doing takes puts stores) i o f j p g name a r in
-        (map OnFiles d.0, d.1, run_end name a d.0 d.2)
+    by_command (Some (Run names)) r = (r.0, r.1, run_end Tells names a r.0 r.2)
     by_command (Some (Vi budget name)) r = (r.0, r.1, vi_end name budget a r.0 r.2)

@@ -24,10 +24,9 @@ use Rattle.p9_vi.specs.Streams.{StreamsRan}
 use Rattle.p9_vi.specs.declared.stop.Stop.{Stop}
 use Rattle.p9_vi.specs.declared.stop.Stop.TheVariants as stops
 use Rattle.p9_suite.specs.declared.answer.Answer.{Answer}
-use Rattle.p9_suite.specs.declared.answer.Answer.TheVariants.{Ended, Usage, Absent, ReadFault, WriteFault, StoreFault, Memory, Halted, Spent, BadMagic, ShortFile, BadSegment, NotBuilt}
-use Rattle.p9_suite.specs.RunCommand.{read_file}
+use Rattle.p9_suite.specs.declared.answer.Answer.TheVariants.{Ended, Usage, Twice, NoMain, MainType, Unresolved, Disagree, Absent, ReadFault, WriteFault, StoreFault, Memory, Halted, Spent, BadMagic, ShortFile, BadSegment, NotBuilt}
 use Rattle.p9_suite.specs.Suite.{doing, objects}
-use Rattle.p9_suite.specs.ViCommand.{FileCalls, ViCalls, ViDoes, FileDoes, IsRunOf, Outcome, ViTells, Comes, answer_at, stop_answer, refusal}
+use Rattle.p9_suite.specs.ViCommand.{read_file, FileCalls, ViCalls, ViDoes, FileDoes, IsRunOf, Outcome, ViTells, Comes, answer_at, stop_answer, refusal}
 
 -- A run appends to what was put before
 
@@ -217,6 +216,11 @@ vi_unread takes puts stores i o f g name budget d = (OnFiles (ReadCall name got.
 simulates : (name file : List ℕ) (budget : ℕ) (a : Answer) (calls : List StreamCall) → FileCalls name file budget a calls → ViCalls name budget a (OnFiles (read_file name file) ∷ map OnStream calls)
 simulates name file budget (Ended text) calls c = (file, calls, refl, c)
 simulates name file budget Usage calls c = c
+simulates name file budget (Twice x m n) calls c = absurd c
+simulates name file budget NoMain calls c = absurd c
+simulates name file budget (MainType m) calls c = absurd c
+simulates name file budget (Unresolved x m) calls c = absurd c
+simulates name file budget (Disagree x m n) calls c = absurd c
 simulates name file budget (Absent word) calls c = absurd c
 simulates name file budget ReadFault calls c = (file, calls, refl, c)
 simulates name file budget WriteFault calls c = (file, calls, refl, c)

@@ -5,12 +5,17 @@ use Rattle.hex.specs.Hex.{encode_lower}
 use Rattle.p9_r3k.specs.declared.halt.HaltCause.{HaltCause}
 use Rattle.p9_r3k.specs.declared.halt.HaltCause.TheVariants as halts
 use Rattle.p9_suite.specs.declared.answer.Answer.{Answer}
-use Rattle.p9_suite.specs.declared.answer.Answer.TheVariants.{Ended, Usage, Absent, ReadFault, WriteFault, StoreFault, Memory, Halted, Spent, BadMagic, ShortFile, BadSegment, NotBuilt}
+use Rattle.p9_suite.specs.declared.answer.Answer.TheVariants.{Ended, Usage, Twice, NoMain, MainType, Unresolved, Disagree, Absent, ReadFault, WriteFault, StoreFault, Memory, Halted, Spent, BadMagic, ShortFile, BadSegment, NotBuilt}
 
 abbrev pub status : Answer → ℕ
 status (Ended []) = 0
 status (Ended (c ∷ cs)) = 1
 status Usage = 2
+status (Twice name i j) = 5
+status NoMain = 5
+status (MainType i) = 5
+status (Unresolved name i) = 5
+status (Disagree name i j) = 5
 status (Absent file) = 6
 status ReadFault = 7
 status WriteFault = 8
@@ -49,6 +54,11 @@ abbrev pub message : Answer → List ℕ
 message (Ended []) = []
 message (Ended (c ∷ cs)) = (c ∷ cs) ++ newline
 message Usage = codes "usage" ++ newline
+message (Twice name i j) = codes "vl: 40 Twice " ++ (name ++ (codes " " ++ (decimal i ++ (codes " " ++ (decimal j ++ newline)))))
+message NoMain = codes "vl: 43 NoMain" ++ newline
+message (MainType i) = codes "vl: 44 MainType " ++ (decimal i ++ newline)
+message (Unresolved name i) = codes "vl: 41 Unresolved " ++ (name ++ (codes " " ++ (decimal i ++ newline)))
+message (Disagree name i j) = codes "vl: 42 Disagree " ++ (name ++ (codes " " ++ (decimal i ++ (codes " " ++ (decimal j ++ newline)))))
 message (Absent file) = file ++ (codes ": absent" ++ newline)
 message ReadFault = codes "read fault" ++ newline
 message WriteFault = codes "write fault" ++ newline

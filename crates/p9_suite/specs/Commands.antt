@@ -1,12 +1,12 @@
 -- What a command line asks for.
 use Rattle.std.specs.Prelude.{ℕ, ◌+◌, ◌-◌, ◌*◌, ◌^◌, List, [], ◌∷◌, length, Bool, not, ◌&&◌, ◌==◌, nat_le, nat_lt, Option, Some, None, if◌then◌else◌, nat_eq, codes}
-use Rattle.std.specs.List.{starts_with, ends_with}
+use Rattle.std.specs.List.{starts_with, ends_with, list_all}
 use Rattle.std.specs.Str.{bytes_eq}
 use Rattle.p9_suite.specs.declared.command.Command as declared
 
--- `run` of a source, and `vi` of an executable for at most so many instructions
+-- `run` of sources, and `vi` of an executable for at most so many instructions
 pub data Command : Type 0 where
-  Run : (file : List ℕ) → Command
+  Run : (files : List (List ℕ)) → Command
   Vi : (budget : ℕ) (file : List ℕ) → Command
 
 -- Words
@@ -38,8 +38,10 @@ number_of word = if not (length word == 0) && nat_le (length word) 10 then with_
 
 -- Commands
 
-abbrev pub run_of : List ℕ → Option Command
-run_of file = if is_source file then Some (Run file) else None
+-- `run` of 1 to 16 sources
+abbrev pub run_of : List (List ℕ) → Option Command
+run_of files =
+    if nat_le 1 (length files) && (nat_le (length files) 16 && list_all is_source files) then Some (Run files) else None
 
 abbrev pub vi_of : Option ℕ → List ℕ → Option Command
 vi_of None file = None
@@ -49,16 +51,20 @@ vi_of (Some budget) file = if is_file file then Some (Vi budget file) else None
 abbrev pub default_budget : ℕ
 default_budget = 100000000
 
+-- the words behind `vi`
+abbrev pub vi_words : List (List ℕ) → Option Command
+vi_words (file ∷ []) = vi_of (Some default_budget) file
+vi_words (option ∷ number ∷ file ∷ []) = if bytes_eq option (codes "-n") then vi_of (number_of number) file else None
+vi_words _ = None
+
 -- the command of the words, where they are one
 abbrev pub command_of : List (List ℕ) → Option Command
-command_of (command ∷ file ∷ []) =
-    if bytes_eq command (codes "run") then run_of file else
-    if bytes_eq command (codes "vi") then vi_of (Some default_budget) file else None
-command_of (command ∷ option ∷ number ∷ file ∷ []) =
-    if bytes_eq command (codes "vi") && bytes_eq option (codes "-n") then vi_of (number_of number) file else None
-command_of _ = None
+command_of [] = None
+command_of (command ∷ words) =
+    if bytes_eq command (codes "run") then run_of words else
+    if bytes_eq command (codes "vi") then vi_words words else None
 
 -- the command that the code's value stands for
 abbrev pub command_seen : declared.Command → Command
-command_seen (declared.TheVariants.Run file) = Run file.now
+command_seen (declared.TheVariants.Run files) = Run files.now
 command_seen (declared.TheVariants.Vi budget file) = Vi budget file.now

@@ -1,10 +1,7 @@
-pub mod Form
 pub mod Commands
 pub mod Answers
 pub mod Reports
-pub mod Program
-pub mod Headline
-pub mod Ends
-pub mod RunCommand
 pub mod ViCommand
+pub mod RunCommand
+pub mod RunContent
 pub mod Suite

@@ -2,26 +2,24 @@
 use Rattle.std.specs.Prelude.{◌≡◌, ◌≢◌, ◌↔◌, ◌⊎◌, ℕ, List, Option, Some, None, IfSome, IsSomeAnd, if◌then◌else◌, ◌==◌}
 use Rattle.p9_base.specs.Outside.{Held, Rose, OthersAsBefore, TakeCall, PutCall, FileCall}
 use Rattle.p9_base.specs.Calls.{Call, Failing, Input, Out, Store, Objects, Doing, Did, CallsEnd}
-use Rattle.p9_cmean.specs.Laws.{exits_with}
 use Rattle.p9_vi.specs.Stops.{Told}
 use Rattle.p9_suite.specs.declared.answer.Answer.{Answer}
-use Rattle.p9_suite.specs.declared.answer.Answer.TheVariants.{Ended, Usage}
-use Rattle.p9_suite.specs.Form.{HasForm, HasNoForm}
+use Rattle.p9_suite.specs.declared.answer.Answer.TheVariants.{Usage}
 use Rattle.p9_suite.specs.Commands.{Command, Run, Vi, command_of}
 use Rattle.p9_suite.specs.Answers.{status, message}
-use Rattle.p9_suite.specs.Headline.{KeepsMeaning}
-use Rattle.p9_suite.specs.Ends.{EndsWith}
-use Rattle.p9_suite.specs.RunCommand.{RunDoes, StoreRuns, output_name}
+use Rattle.p9_suite.specs.RunCommand.{RunDoes, output_name}
+use Rattle.p9_suite.specs.RunContent.{FilesSay}
 use Rattle.p9_suite.specs.ViCommand.{ViDoes, ViTells}
 
--- each command does what its own relation says; words that are none make no call
-abbrev pub CommandDoes : {I O F : Type 0} → Doing I O F → (old new : Objects I O F) → Option Command → Answer → Type 0
-CommandDoes doing old new None answer = (answer ≡ Usage) × (new ≡ old)
-CommandDoes doing old new (Some (Run name)) answer = RunDoes doing old new name answer
-CommandDoes doing old new (Some (Vi budget name)) answer = ViDoes doing old new name budget answer
+-- Each command does what its own relation says; words that are none make no call. `Tells` is what the source and the
+-- sink tell of the bytes of the executable that `run` writes.
+abbrev pub CommandDoes : {I O F : Type 0} → Doing I O F → (old new : Objects I O F) → (Tells : (bytes : List ℕ) → Answer → Type 0) → Option Command → Answer → Type 0
+CommandDoes doing old new Tells None answer = (answer ≡ Usage) × (new ≡ old)
+CommandDoes doing old new Tells (Some (Run names)) answer = RunDoes doing old new Tells names answer
+CommandDoes doing old new Tells (Some (Vi budget name)) answer = ViDoes doing old new name budget answer
 
-abbrev pub SuiteDoes : {I O F : Type 0} → Doing I O F → (old new : Objects I O F) → (words : List (List ℕ)) → Answer → Type 0
-SuiteDoes doing old new words answer = CommandDoes doing old new (command_of words) answer
+abbrev pub SuiteDoes : {I O F : Type 0} → Doing I O F → (old new : Objects I O F) → (Tells : (bytes : List ℕ) → Answer → Type 0) → (words : List (List ℕ)) → Answer → Type 0
+SuiteDoes doing old new Tells words answer = CommandDoes doing old new Tells (command_of words) answer
 
 -- the object whose call failed, at the statuses that say so
 abbrev pub failing_at : ℕ → Option Failing
@@ -39,22 +37,22 @@ abbrev pub objects : {I O F : Type 0} → I → O → F → Objects I O F
 objects input out files = record { input = input; out = out; files = files }
 
 -- the same for each of the three objects
-abbrev pub CommandMakes : {I O F : Type 0} → (I → TakeCall → I → Type 0) → (O → PutCall → O → Type 0) → (F → FileCall → F → Type 0) → (i : I) (o : O) (f : F) (j : I) (p : O) (g : F) → Option Command → Answer → Type 0
-CommandMakes takes puts stores i o f j p g None answer = (answer ≡ Usage) × (j ≡ i) × (p ≡ o) × (g ≡ f)
-CommandMakes takes puts stores i o f j p g (Some (Run name)) answer = StoreRuns stores f g name answer × (j ≡ i) × (p ≡ o)
-CommandMakes takes puts stores i o f j p g (Some (Vi budget name)) answer =
+abbrev pub CommandMakes : {I O F : Type 0} → (I → TakeCall → I → Type 0) → (O → PutCall → O → Type 0) → (F → FileCall → F → Type 0) → (i : I) (o : O) (f : F) (j : I) (p : O) (g : F) → (Tells : (bytes : List ℕ) → Answer → Type 0) → Option Command → Answer → Type 0
+CommandMakes takes puts stores i o f j p g Tells None answer = (answer ≡ Usage) × (j ≡ i) × (p ≡ o) × (g ≡ f)
+CommandMakes takes puts stores i o f j p g Tells (Some (Run names)) answer =
+    RunDoes (doing takes puts stores) (objects i o f) (objects j p g) Tells names answer
+CommandMakes takes puts stores i o f j p g Tells (Some (Vi budget name)) answer =
     ViDoes (doing takes puts stores) (objects i o f) (objects j p g) name budget answer
 
--- the command simulates no program of the user's
-abbrev pub RunsNone : Option Command → Type 0
-RunsNone None = Unit {0}
-RunsNone (Some (Run name)) = Unit {0}
-RunsNone (Some (Vi budget name)) = ⊥
+-- the statuses of refusals before a write or a simulation: words that are no command, files that don't join, one that
+-- isn't there, and one without the form
+abbrev pub IsRefused : ℕ → Type 0
+IsRefused s = (s ≡ 2) ⊎ (s ≡ 5) ⊎ (s ≡ 6) ⊎ (s ≡ 16)
 
 -- what `vi` tells of the content, where the store, the source and the sink tell theirs
 abbrev pub CommandTells : Option Command → Option Held → (left later out now : Option (List ℕ)) → Answer → Type 0
 CommandTells None held left later out now answer = Unit {0}
-CommandTells (Some (Run name)) held left later out now answer = Unit {0}
+CommandTells (Some (Run names)) held left later out now answer = Unit {0}
 CommandTells (Some (Vi budget name)) held left later out now answer =
     (files : Held) → held ≡ Some files → Told (λ l o l' o'. ViTells name budget answer (files name) l o l' o') left later out now
 
@@ -66,12 +64,6 @@ ViSays words held left later out now s Line =
     × ((files : Held) → held ≡ Some files → Told (λ l o l' o'. ViTells name budget answer (files name) l o l' o') left later out now)
 
 -- The causes of the statuses, in plain words
-
--- the status of `run` for what the store has at the file's name, where no call failed and memory sufficed:
--- 6 where there is nothing, 16 where it hasn't the form, 0 where its text is empty, else 1
-abbrev pub StatusOfFile : Option (List ℕ) → ℕ → Type 0
-StatusOfFile None s = s ≡ 6
-StatusOfFile (Some file) s = (HasNoForm file × (s ≡ 16)) ⊎ ((text : List ℕ) × HasForm file text × (s ≡ status (Ended text)))
 
 -- how the counts of faults were and are
 pub record FaultCounts : Type 0 where
@@ -94,28 +86,13 @@ pub record StatusSays (words : List (List ℕ)) (held later : Option Held) (befo
   -- 9 exactly where a call on the store failed
   pub store_fault : s ≡ 9 → Rose before.of_files now.of_files
   pub no_store_fault : s ≢ 9 → now.of_files ≡ before.of_files
-  -- 0, 1, 6 and 16 of `run` by what the store has at the file's name
-  pub file :
-      (name : List ℕ) → command_of words ≡ Some (Run name) → s ≢ 9 → s ≢ 10 →
-      IfSome held (λ files. StatusOfFile (files name) s)
+  -- 5, 6 and 16 of `run` by what the store has at the files' names
+  pub files :
+      (names : List (List ℕ)) → command_of words ≡ Some (Run names) → s ≢ 9 → s ≢ 10 →
+      IfSome held (λ files. FilesSay names files s)
   -- a refusal before the write leaves the store as it was
-  pub unwritten : (s ≡ 2) ⊎ (s ≡ 6) ⊎ (s ≡ 16) → later ≡ held
+  pub unwritten : IsRefused s → later ≡ held
   -- and so does `vi`
   pub read_only : (budget : ℕ) (name : List ℕ) → command_of words ≡ Some (Vi budget name) → later ≡ held
   -- whatever the status, every name but `v.out` has what it had
   pub others : IfSome held (λ files. IsSomeAnd later (λ now_held. OthersAsBefore files now_held output_name))
-
--- the executable that stands in the store keeps the meaning of the program with this text, and the status is that of its run
-pub record IsRun (text bytes : List ℕ) (s : ℕ) : Type 0 where
-  pub keeps : KeepsMeaning (exits_with text) bytes
-  pub printed : List ℕ
-  pub ends : EndsWith bytes printed
-  pub answers : s ≡ status (Ended printed)
-
--- Every file of the form is compiled and run: where the store tells what it holds, no call on it failed and memory
--- sufficed, it holds an executable afterwards that keeps the meaning of the file's program, and the answer is that of its run.
-abbrev pub Headline : (words : List (List ℕ)) (held later : Option Held) (s : ℕ) → Type 0
-Headline words held later s =
-    (name file text : List ℕ) → command_of words ≡ Some (Run name) →
-    IfSome held (λ files. files name ≡ Some file → HasForm file text → s ≢ 9 → s ≢ 10 →
-    (bytes : List ℕ) × IsSomeAnd later (λ now_held. now_held output_name ≡ Some bytes) × IsRun text bytes s)

@@ -1,6 +1,6 @@
 -- What the command `vi` does: the calls that it makes in order, and its answer.
 use Rattle.std.specs.Prelude.{◌≡◌, ℕ, List, [], ◌∷◌, ◌++◌, map, Option, Some, None, Result, Ok, Err, ◌⊎◌}
-use Rattle.p9_base.specs.Outside.{TakeCall, PutCall, ReadCall}
+use Rattle.p9_base.specs.Outside.{TakeCall, PutCall, FileCall, ReadCall}
 use Rattle.p9_base.specs.declared.outside.Got.TheVariants as got
 use Rattle.p9_base.specs.Calls.{StreamCall, StreamsDid, StreamsFine, StreamsEnd, Input, Out, Call, OnStream, OnFiles, Objects, Doing, Did}
 use Rattle.p9_aout.specs.Image.{ImageParts, image_of}
@@ -15,10 +15,13 @@ use Rattle.p9_vi.specs.Stops.{RunsToRead, RunsToWrite}
 use Rattle.p9_vi.specs.declared.stop.Stop.{Stop}
 use Rattle.p9_vi.specs.declared.stop.Stop.TheVariants as stops
 use Rattle.p9_suite.specs.declared.answer.Answer.{Answer}
-use Rattle.p9_suite.specs.declared.answer.Answer.TheVariants.{Ended, Usage, Absent, ReadFault, WriteFault, StoreFault, Memory, Halted, Spent, BadMagic, ShortFile, BadSegment, NotBuilt}
-use Rattle.p9_suite.specs.RunCommand.{read_file}
+use Rattle.p9_suite.specs.declared.answer.Answer.TheVariants.{Ended, Usage, Twice, NoMain, MainType, Unresolved, Disagree, Absent, ReadFault, WriteFault, StoreFault, Memory, Halted, Spent, BadMagic, ShortFile, BadSegment, NotBuilt}
 
 -- The calls
+
+-- the file was read, and its bytes were found
+abbrev pub read_file : (name file : List ℕ) → FileCall
+read_file name file = ReadCall name (got.Found file)
 
 -- the bytes are an executable
 abbrev pub IsExecutable : List ℕ → Type 0
@@ -33,6 +36,11 @@ IsRefused file why calls = (image_of file ≡ Err why) × (calls ≡ [])
 abbrev pub FileCalls : (name file : List ℕ) (budget : ℕ) → Answer → List StreamCall → Type 0
 FileCalls name file budget (Ended text) calls = IsExecutable file × StreamsFine calls
 FileCalls name file budget Usage calls = ⊥
+FileCalls name file budget (Twice x m n) calls = ⊥
+FileCalls name file budget NoMain calls = ⊥
+FileCalls name file budget (MainType m) calls = ⊥
+FileCalls name file budget (Unresolved x m) calls = ⊥
+FileCalls name file budget (Disagree x m n) calls = ⊥
 FileCalls name file budget (Absent word) calls = ⊥
 FileCalls name file budget ReadFault calls = IsExecutable file × StreamsEnd calls (Some Input)
 FileCalls name file budget WriteFault calls = IsExecutable file × StreamsEnd calls (Some Out)
@@ -55,6 +63,11 @@ ReadsAndSimulates name budget answer calls =
 abbrev pub ViCalls : (name : List ℕ) (budget : ℕ) → Answer → List Call → Type 0
 ViCalls name budget (Ended text) calls = ReadsAndSimulates name budget (Ended text) calls
 ViCalls name budget Usage calls = ⊥
+ViCalls name budget (Twice x m n) calls = ⊥
+ViCalls name budget NoMain calls = ⊥
+ViCalls name budget (MainType m) calls = ⊥
+ViCalls name budget (Unresolved x m) calls = ⊥
+ViCalls name budget (Disagree x m n) calls = ⊥
 ViCalls name budget (Absent word) calls = (word ≡ name) × (calls ≡ OnFiles (ReadCall name got.Absent) ∷ [])
 ViCalls name budget ReadFault calls = ReadsAndSimulates name budget ReadFault calls
 ViCalls name budget WriteFault calls = ReadsAndSimulates name budget WriteFault calls
@@ -137,6 +150,11 @@ ComesToWrite budget (Some file) left out later now =
 abbrev pub ViTells : (name : List ℕ) (budget : ℕ) → Answer → Option (List ℕ) → (left out later now : List ℕ) → Type 0
 ViTells name budget (Ended text) there left out later now = Comes name budget there left out later now (Ended text)
 ViTells name budget Usage there left out later now = ⊥
+ViTells name budget (Twice x m n) there left out later now = ⊥
+ViTells name budget NoMain there left out later now = ⊥
+ViTells name budget (MainType m) there left out later now = ⊥
+ViTells name budget (Unresolved x m) there left out later now = ⊥
+ViTells name budget (Disagree x m n) there left out later now = ⊥
 ViTells name budget (Absent word) there left out later now = Comes name budget there left out later now (Absent word)
 ViTells name budget ReadFault there left out later now = ComesToRead budget there left out later now
 ViTells name budget WriteFault there left out later now = ComesToWrite budget there left out later now

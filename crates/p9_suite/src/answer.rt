@@ -10,6 +10,16 @@ pub enum Answer {
     Ended(ExitText),
     /// The words are no command.
     Usage,
+    /// A name is defined in two modules, which have these numbers.
+    Twice(Name, u32, u32),
+    /// No module defines `main`.
+    NoMain,
+    /// `main` of the module with this number hasn't a type that it may have.
+    MainType(u32),
+    /// The module with this number uses a name that no module defines.
+    Unresolved(Name, u32),
+    /// Two modules, which have these numbers, disagree on a name.
+    Disagree(Name, u32, u32),
     /// This file isn't there.
     Absent(Name),
     /// A call on the input failed.
@@ -30,6 +40,6 @@ pub enum Answer {
     ShortFile(Name, u64),
     /// This file's sizes or its entry are out of bounds.
     BadSegment(Name),
-    /// This file hasn't the form that is compiled so far.
+    /// This file hasn't the form that is compiled.
     NotBuilt(Name),
 }

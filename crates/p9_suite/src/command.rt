@@ -1,18 +1,22 @@
 // The words of a command line.
 ghost use Rattle.std.specs.Prelude.{◌≡◌, MatchOption, Some, None};
-ghost use Rattle.p9_suite.specs.Commands.{command_of, command_seen, is_file, is_source, run_of, vi_of};
+ghost use Rattle.std.specs.List.{list_all};
+ghost use Rattle.p9_suite.specs.Commands.{command_of, command_seen, is_file, is_source, run_of, vi_of, vi_words};
 
 use crate::number::number;
 use p9_base::{Name, Words};
 
 /// What the words ask for.
 pub(crate) enum Command<'a> {
-    Run(&'a Name),
+    Run(&'a [Name]),
     Vi { budget: u32, file: &'a Name },
 }
 
 /// So many instructions are simulated where no option says how many.
-const BUDGET: u32 = 100_000_000;
+pub(crate) const BUDGET: u32 = 100_000_000;
+
+/// `run` takes so many files at most.
+const MOST_FILES: usize = 16;
 
 // Whether a word names a file.
 fn is_file(word: &[u8]) -> bool
@@ -28,12 +32,26 @@ fn is_source(word: &[u8]) -> bool
     word.ends_with(b".c") && !word.starts_with(b"-")
 }
 
-// `run` of a file.
-fn run_of(file: &Name) -> Option<Command<'_>>
-    ensures { MatchOption result (run_of file.now ≡ None) (λ c. run_of file.now ≡ Some (command_seen c)) }
+// Whether all of these words name C sources.
+fn are_sources(files: &[Name]) -> bool
+    ensures { result ≡ list_all is_source files.now }
 {
-    if is_source(&file.list) {
-        Some(Command::Run(file))
+    let mut rest = files;
+    while let [file, after @ ..] = rest {
+        if !is_source(&file.list) {
+            return false;
+        }
+        rest = after;
+    }
+    true
+}
+
+// `run` of 1 to 16 files.
+fn run_of(files: &[Name]) -> Option<Command<'_>>
+    ensures { MatchOption result (run_of files.now ≡ None) (λ c. run_of files.now ≡ Some (command_seen c)) }
+{
+    if 1 <= files.len() && files.len() <= MOST_FILES && are_sources(files) {
+        Some(Command::Run(files))
     } else {
         None
     }
@@ -50,24 +68,14 @@ fn vi_of(budget: u32, file: &Name) -> Option<Command<'_>>
     }
 }
 
-/// The command of the words.
-pub(crate) fn command_of(words: &Words) -> Option<Command<'_>>
-    ensures { MatchOption result (command_of words.now ≡ None) (λ c. command_of words.now ≡ Some (command_seen c)) }
+// The words behind `vi`.
+fn vi_words(words: &[Name]) -> Option<Command<'_>>
+    ensures { MatchOption result (vi_words words.now ≡ None) (λ c. vi_words words.now ≡ Some (command_seen c)) }
 {
-    match words.list.as_slice() {
-        [command, file] => {
-            if command.list.as_slice() == b"run".as_slice() {
-                run_of(file)
-            } else if command.list.as_slice() == b"vi".as_slice() {
-                vi_of(BUDGET, file)
-            } else {
-                None
-            }
-        }
-        [command, option, digits, file] => {
-            if command.list.as_slice() == b"vi".as_slice()
-                && option.list.as_slice() == b"-n".as_slice()
-            {
+    match words {
+        [file] => vi_of(BUDGET, file),
+        [option, digits, file] => {
+            if option.list.as_slice() == b"-n".as_slice() {
                 match number(&digits.list) {
                     Some(budget) => vi_of(budget, file),
                     None => None,
@@ -77,5 +85,23 @@ pub(crate) fn command_of(words: &Words) -> Option<Command<'_>>
             }
         }
         _ => None,
+    }
+}
+
+/// The command of the words.
+pub(crate) fn command_of(words: &Words) -> Option<Command<'_>>
+    ensures { MatchOption result (command_of words.now ≡ None) (λ c. command_of words.now ≡ Some (command_seen c)) }
+{
+    match words.list.as_slice() {
+        [command, others @ ..] => {
+            if command.list.as_slice() == b"run".as_slice() {
+                run_of(others)
+            } else if command.list.as_slice() == b"vi".as_slice() {
+                vi_words(others)
+            } else {
+                None
+            }
+        }
+        [] => None,
     }
 }

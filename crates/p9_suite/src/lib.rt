@@ -2,17 +2,15 @@
 #![tactic(auto)]
 
 mod answer;
-mod build;
 mod command;
 mod copied;
 mod exit_text;
-mod form;
 mod halt;
 mod number;
 mod put;
+mod read;
 mod report;
 mod run;
-mod simulate;
 #[cfg(test)]
 mod tests;
 mod top;

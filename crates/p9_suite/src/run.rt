@@ -1,14 +1,24 @@
 // The command `run`.
-ghost use Rattle.std.specs.Prelude.{◌≡◌, IfOk};
-ghost use Rattle.p9_suite.specs.Form.{IsText};
-ghost use Rattle.p9_suite.specs.RunCommand.{StoreBuilds, StoreRuns, output_name};
+ghost use Rattle.std.specs.Prelude.{◌≡◌, ◌≤◌, List, ℕ, Some, length, All, IfOk, IfErr};
+ghost use Rattle.p9_lang.specs.Form.{IsFile};
+ghost use Rattle.p9_form.specs.Items.{items_of};
+ghost use Rattle.p9_form.specs.Sharing.{IsSmall};
+ghost use Rattle.p9_vi.specs.Stops.{Told};
+ghost use Rattle.p9_suite.specs.RunCommand.{BuildDoes, IsProgram, IsUnbuilt, RunDoes, WriteDoes, fault_answer, output_name};
+ghost use Rattle.p9_suite.specs.RunContent.{TellsRun};
+ghost use Rattle.p9_suite.specs.Suite.{doing, objects};
+ghost use Rattle.p9_suite.specs.ViCommand.{IsExecutable};
 
 use crate::answer::Answer;
-use crate::build::compile;
+use crate::command::BUDGET;
 use crate::copied::copied;
-use crate::form::text_of;
-use crate::simulate::simulated;
-use p9_base::{FileFault, Files, Got, Name, NoMemory};
+use crate::read::read_all;
+use crate::vi::simulate_file;
+use p9_base::{Bytes, FileFault, Files, Name, NoMemory, Sink, Source};
+use p9_form::FileList;
+use p9_names::LinkFault;
+use p9_share::join;
+use p9_straight::compile;
 use std::alloc::Global;
 
 fn output_name(alloc: Global) -> Result<Name, NoMemory>
@@ -17,44 +27,94 @@ fn output_name(alloc: Global) -> Result<Name, NoMemory>
     copied(alloc, b"v.out")
 }
 
-// Compiles, writes and runs the program that ends with the text.
-#[tactic(auto, using(crate::proofs::RunLemmas::built_no_memory))]
-fn build_and_run<F: Files>(alloc: Global, text: &[u8], files: &mut F) -> Answer
-    requires { IsText text.now }
-    ensures { StoreBuilds F.did files.old files.new text.now result }
+// The answer to files that don't join.
+fn fault_answer(fault: LinkFault) -> Answer
+    ensures { result ≡ fault_answer fault }
 {
-    let Ok(bytes) = compile(alloc, text) else {
-        return Answer::Memory;
-    };
+    match fault {
+        LinkFault::Twice { name, i, j } => Answer::Twice(name, i, j),
+        LinkFault::NoMain => Answer::NoMain,
+        LinkFault::MainType { i } => Answer::MainType(i),
+        LinkFault::Unresolved { name, i } => Answer::Unresolved(name, i),
+        LinkFault::Disagree { name, i, j } => Answer::Disagree(name, i, j),
+        LinkFault::Memory => Answer::Memory,
+    }
+}
+
+// Joins the files and compiles them.
+fn build(alloc: Global, list: &FileList) -> Result<Bytes, Answer>
+    requires form { All (λ f. IsFile (items_of f)) list.now }
+    requires small { All IsSmall list.now }
+    requires count { length list.now ≤ 16 }
+    ensures program { IfOk result (λ bytes. IsProgram list.now bytes) }
+    ensures executable { IfOk result (λ bytes. IsExecutable bytes) }
+    ensures unbuilt { IfErr result (λ answer. IsUnbuilt list.now answer) }
+{
+    match join(alloc, list) {
+        Ok(()) => match compile(alloc, list) {
+            Ok(bytes) => Ok(bytes),
+            Err(NoMemory) => Err(Answer::Memory),
+        },
+        Err(fault) => Err(fault_answer(fault)),
+    }
+}
+
+// Writes an executable and simulates it.
+fn write_and_run<I: Source, O: Sink, F: Files>(
+    alloc: Global,
+    bytes: &Bytes,
+    input: &mut I,
+    out: &mut O,
+    files: &mut F,
+) -> Answer
+    requires { IsExecutable bytes.now }
+    ensures does { WriteDoes (doing I.did O.did F.did) (objects input.old out.old files.old) (objects input.new out.new files.new) bytes.now result }
+    ensures tells { TellsRun (I.left input.old) (I.left input.new) (O.sofar out.old) (O.sofar out.new) bytes.now result }
+{
     let Ok(output) = output_name(alloc) else {
         return Answer::Memory;
     };
-    match files.write(alloc, &output, &bytes) {
-        Ok(()) => match simulated(alloc, &bytes) {
-            Ok(text) => Answer::Ended(text),
-            Err(NoMemory) => Answer::Memory,
-        },
+    match files.write(alloc, &output, bytes) {
+        Ok(()) => simulate_file(alloc, output, bytes, BUDGET, input, out),
         Err(FileFault::Failed) => Answer::StoreFault(output),
         Err(FileFault::NoMemory) => Answer::Memory,
     }
 }
 
-/// `run` of one file.
-#[tactic(auto, using(crate::proofs::RunLemmas::ran_no_memory, crate::proofs::RunLemmas::ran_absent, crate::proofs::RunLemmas::ran_fault, crate::proofs::RunLemmas::ran_unread))]
-pub(crate) fn run<F: Files>(alloc: Global, name: &Name, files: &mut F) -> Answer
-    ensures { StoreRuns F.did files.old files.new name.now result }
+// Compiles files that were read, writes the executable and runs it.
+fn build_and_run<I: Source, O: Sink, F: Files>(
+    alloc: Global,
+    list: &FileList,
+    input: &mut I,
+    out: &mut O,
+    files: &mut F,
+) -> Answer
+    requires form { All (λ f. IsFile (items_of f)) list.now }
+    requires small { All IsSmall list.now }
+    requires count { length list.now ≤ 16 }
+    ensures { BuildDoes (doing I.did O.did F.did) (objects input.old out.old files.old) (objects input.new out.new files.new)
+        (λ bytes answer. TellsRun (I.left input.old) (I.left input.new) (O.sofar out.old) (O.sofar out.new) bytes answer) list.now result }
 {
-    // The name is copied before the first call, so want of memory hides no fault.
-    let Ok(word) = name.copied(alloc) else {
-        return Answer::Memory;
-    };
-    match files.read(alloc, name) {
-        Got::Found(file) => match text_of(&file.list) {
-            Some(text) => build_and_run(alloc, text, files),
-            None => Answer::NotBuilt(word),
-        },
-        Got::Absent => Answer::Absent(word),
-        Got::Failed => Answer::StoreFault(word),
-        Got::NoMemory => Answer::Memory,
+    match build(alloc, list) {
+        Ok(bytes) => write_and_run(alloc, &bytes, input, out, files),
+        Err(answer) => answer,
+    }
+}
+
+/// `run` of 1 to 16 files.
+pub(crate) fn run<I: Source, O: Sink, F: Files>(
+    alloc: Global,
+    names: &[Name],
+    input: &mut I,
+    out: &mut O,
+    files: &mut F,
+) -> Answer
+    requires { length names.now ≤ 16 }
+    ensures { RunDoes (doing I.did O.did F.did) (objects input.old out.old files.old) (objects input.new out.new files.new)
+        (λ bytes answer. TellsRun (I.left input.old) (I.left input.new) (O.sofar out.old) (O.sofar out.new) bytes answer) names.now result }
+{
+    match read_all(alloc, names, files) {
+        Ok(list) => build_and_run(alloc, &list, input, out, files),
+        Err(answer) => answer,
     }
 }

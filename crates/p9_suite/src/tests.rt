@@ -6,6 +6,15 @@ use std::test::Fail;
 
 const TEXT: &[u8] = b"void main(void){ exits(\"text\"); }";
 
+const HI: &[u8] = b"void main(void){ write(1, \"hi\\n\", 3); exits(0); }";
+
+const INT: &[u8] = b"int x; void main(void){ write(1, \"abc\", x); exits(0); }";
+
+const ONE: &[u8] = b"int x = 1; void main(void){ exits(0); }";
+
+const SUM: &[u8] =
+    b"extern int y; int x; void main(void){ x = y + 1; write(1, \"abcdef\", x); exits(0); }";
+
 const NONE: Fails<'static> = Fails {
     input: &[],
     out: &[],
@@ -50,23 +59,29 @@ struct Fails<'a> {
     files: &'a [u64],
 }
 
-// Does the line where the one file of this name has these bytes and these calls fail.
+// A store's file.
+type Source<'a> = (&'a [u8], &'a [u8]);
+
+// Does the line where these files are in the store and these calls fail.
 fn result_of(
     alloc: Global,
     line: &[u8],
-    name: &[u8],
-    file: &[u8],
+    sources: &[Source<'_>],
     fails: Fails<'_>,
 ) -> Result<Outcome, Fail> {
     let words = words(alloc, line)?;
     let mut input = MemSource::new(bytes(alloc, b"input")?, calls(alloc, fails.input)?);
     let mut out = MemSink::new(alloc, 100, calls(alloc, fails.out)?)?;
     let mut err = MemSink::new(alloc, 300, calls(alloc, &[])?)?;
-    let entry = Entry {
-        name: bytes(alloc, name)?,
-        bytes: bytes(alloc, file)?,
-    };
-    let mut files = MemFiles::new(vec![in alloc; entry]?, calls(alloc, fails.files)?);
+    let mut entries = Vec::new(alloc);
+    for (name, file) in sources {
+        let entry = Entry {
+            name: bytes(alloc, name)?,
+            bytes: bytes(alloc, file)?,
+        };
+        entries.push(entry)?;
+    }
+    let mut files = MemFiles::new(entries, calls(alloc, fails.files)?);
     let status = suite(alloc, &words, &mut input, &mut out, &mut err, &mut files);
     let executable = match files.read(alloc, &bytes(alloc, b"v.out")?) {
         Got::Found(bytes) => Some(bytes),
@@ -80,66 +95,227 @@ fn result_of(
     })
 }
 
+// A line over a store, with the calls that fail, and what it comes to. The executable stands in the
+// store where the files are compiled, and nowhere else.
+#[derive(Clone, Copy)]
+struct Row<'a> {
+    line: &'a [u8],
+    sources: &'a [Source<'a>],
+    fails: Fails<'a>,
+    status: u8,
+    out: &'a [u8],
+    err: &'a [u8],
+    built: bool,
+}
+
+// A line that comes to a run.
+fn run<'a>(
+    line: &'a [u8],
+    sources: &'a [Source<'a>],
+    status: u8,
+    out: &'a [u8],
+    err: &'a [u8],
+) -> Row<'a> {
+    Row {
+        line,
+        sources,
+        fails: NONE,
+        status,
+        out,
+        err,
+        built: true,
+    }
+}
+
+// A line that is refused.
+fn refusal<'a>(line: &'a [u8], sources: &'a [Source<'a>], status: u8, err: &'a [u8]) -> Row<'a> {
+    Row {
+        line,
+        sources,
+        fails: NONE,
+        status,
+        out: b"",
+        err,
+        built: false,
+    }
+}
+
 #[test]
-fn answers(rt: HostRuntime) -> Result<(), Fail> {
-    let alloc = rt.alloc();
-    let empty = b"void main(void){ exits(\"\"); }\n";
-    let none = b"void main(void){ }";
-    let quote = b"void main(void){ exits(\"a\"b\"); }";
-    let rows: [(&[u8], &[u8], &[u64], u8, &[u8]); 10] = [
-        (b"run x.c", TEXT, &[], 1, b"text\n"),
-        (b"run x.c", empty, &[], 0, b""),
-        (b"run x.c", none, &[], 16, b"x.c: not built\n"),
-        (b"run x.c", quote, &[], 16, b"x.c: not built\n"),
-        (b"run", TEXT, &[], 2, b"usage\n"),
-        (b"run -x.c", TEXT, &[], 2, b"usage\n"),
-        (b"run x.c x.c", TEXT, &[], 2, b"usage\n"),
-        (b"run y.c", TEXT, &[], 6, b"y.c: absent\n"),
-        (b"run x.c", TEXT, &[0], 9, b"x.c: store fault\n"),
-        (b"run x.c", TEXT, &[1], 9, b"v.out: store fault\n"),
+fn runs(rt: HostRuntime) -> Result<(), Fail> {
+    let text = [(b"x.c".as_slice(), TEXT)];
+    let empty = [(
+        b"x.c".as_slice(),
+        b"void main(void){ exits(\"\"); }\n".as_slice(),
+    )];
+    let zero = [(
+        b"x.c".as_slice(),
+        b"void main(void){ exits(0); }".as_slice(),
+    )];
+    let none = [(b"x.c".as_slice(), b"void main(void){}".as_slice())];
+    let hi = [(b"x.c".as_slice(), HI)];
+    let rows = [
+        run(b"run x.c", &text, 1, b"", b"text\n"),
+        run(b"run x.c", &empty, 0, b"", b""),
+        run(b"run x.c", &zero, 0, b"", b""),
+        run(b"run x.c", &none, 1, b"", b"main\n"),
+        run(b"run x.c", &hi, 0, b"hi\n", b""),
     ];
-    for (line, file, fails, status, err) in rows {
-        let fails = Fails {
-            input: &[],
-            out: &[],
-            files: fails,
-        };
-        let outcome = result_of(alloc, line, b"x.c", file, fails)?;
-        assert_eq!(rt; outcome.status, status);
-        assert_eq!(rt; outcome.err.as_slice(), err);
-        assert_eq!(rt; outcome.out.len(), 0);
-        assert_eq!(rt; outcome.executable.is_some(), status < 2);
+    for row in rows {
+        let outcome = result_of(rt.alloc(), row.line, row.sources, row.fails)?;
+        assert_eq!(rt; outcome.status, row.status);
+        assert_eq!(rt; outcome.out.as_slice(), row.out);
+        assert_eq!(rt; outcome.err.as_slice(), row.err);
+        assert_eq!(rt; outcome.executable.is_some(), row.built);
     }
     Ok(())
 }
 
-// The header's eight words, six instructions, and the text up to a whole word.
 #[test]
-fn executable(rt: HostRuntime) -> Result<(), Fail> {
-    let alloc = rt.alloc();
-    let want = [
-        0x407u32,
-        24,
-        8,
-        0,
-        0,
-        0x1020,
-        0,
-        0,
-        0x27BD_FFF8,
-        0x3C02_0000,
-        0x3442_2000,
-        0xAFA2_0004,
-        0x2401_0008,
-        0x0000_000C,
-        0x7465_7874,
-        0,
+fn faults(rt: HostRuntime) -> Result<(), Fail> {
+    let text = [(b"x.c".as_slice(), TEXT)];
+    let hi = [(b"x.c".as_slice(), HI)];
+    let put = Fails {
+        input: &[],
+        out: &[0],
+        files: &[],
+    };
+    let read = Fails {
+        input: &[],
+        out: &[],
+        files: &[0],
+    };
+    let written = Fails {
+        input: &[],
+        out: &[],
+        files: &[1],
+    };
+    let rows = [
+        Row {
+            fails: put,
+            ..run(b"run x.c", &hi, 8, b"", b"write fault\n")
+        },
+        Row {
+            fails: read,
+            ..refusal(b"run x.c", &text, 9, b"x.c: store fault\n")
+        },
+        Row {
+            fails: written,
+            ..refusal(b"run x.c", &text, 9, b"v.out: store fault\n")
+        },
     ];
-    let outcome = result_of(alloc, b"run x.c", b"x.c", TEXT, NONE)?;
-    let bytes = outcome.executable.ok_or("no executable")?;
-    assert_eq!(rt; bytes.list.len(), 64);
-    for (word, have) in want.iter().zip(bytes.list.chunks(4)) {
-        assert_eq!(rt; have, word.to_be_bytes().as_slice());
+    for row in rows {
+        let outcome = result_of(rt.alloc(), row.line, row.sources, row.fails)?;
+        assert_eq!(rt; outcome.status, row.status);
+        assert_eq!(rt; outcome.out.as_slice(), row.out);
+        assert_eq!(rt; outcome.err.as_slice(), row.err);
+        assert_eq!(rt; outcome.executable.is_some(), row.built);
+    }
+    Ok(())
+}
+
+#[test]
+fn refused(rt: HostRuntime) -> Result<(), Fail> {
+    let text = [(b"x.c".as_slice(), TEXT)];
+    let only = [(
+        b"x.c".as_slice(),
+        b"extern int x; void main(void){ x = 1; }".as_slice(),
+    )];
+    let no_main = [(b"x.c".as_slice(), b"int x;".as_slice())];
+    let argument = [(b"x.c".as_slice(), b"void main(int a){ }".as_slice())];
+    let rows = [
+        refusal(b"run x.c", &only, 5, b"vl: 41 Unresolved x 0\n"),
+        refusal(b"run x.c", &no_main, 5, b"vl: 43 NoMain\n"),
+        refusal(b"run x.c", &argument, 16, b"x.c: not built\n"),
+        refusal(b"run no.c", &text, 6, b"no.c: absent\n"),
+        refusal(b"run x.c no.c", &text, 6, b"no.c: absent\n"),
+        refusal(b"run", &text, 2, b"usage\n"),
+        refusal(b"vc", &text, 2, b"usage\n"),
+        refusal(b"run -x.c", &text, 2, b"usage\n"),
+        refusal(b"run x.c x", &text, 2, b"usage\n"),
+    ];
+    for row in rows {
+        let outcome = result_of(rt.alloc(), row.line, row.sources, row.fails)?;
+        assert_eq!(rt; outcome.status, row.status);
+        assert_eq!(rt; outcome.out.as_slice(), row.out);
+        assert_eq!(rt; outcome.err.as_slice(), row.err);
+        assert_eq!(rt; outcome.executable.is_some(), row.built);
+    }
+    Ok(())
+}
+
+// Files that share variables.
+#[test]
+fn shared(rt: HostRuntime) -> Result<(), Fail> {
+    let sums = [
+        (b"a.c".as_slice(), SUM),
+        (b"b.c".as_slice(), b"int y = 2;".as_slice()),
+    ];
+    let types = [
+        (b"a.c".as_slice(), INT),
+        (b"b.c".as_slice(), b"extern long x;".as_slice()),
+    ];
+    let twice = [
+        (b"a.c".as_slice(), ONE),
+        (b"b.c".as_slice(), b"int x = 1;".as_slice()),
+    ];
+    let rows = [
+        run(b"run a.c b.c", &sums, 0, b"abc", b""),
+        run(b"run b.c a.c", &sums, 0, b"abc", b""),
+        refusal(b"run a.c b.c", &types, 5, b"vl: 42 Disagree x 0 1\n"),
+        refusal(b"run a.c b.c", &twice, 5, b"vl: 40 Twice x 0 1\n"),
+    ];
+    for row in rows {
+        let outcome = result_of(rt.alloc(), row.line, row.sources, row.fails)?;
+        assert_eq!(rt; outcome.status, row.status);
+        assert_eq!(rt; outcome.out.as_slice(), row.out);
+        assert_eq!(rt; outcome.err.as_slice(), row.err);
+        assert_eq!(rt; outcome.executable.is_some(), row.built);
+    }
+    Ok(())
+}
+
+// A variable without a value in two files, and with one in a third, is one variable.
+#[test]
+fn common(rt: HostRuntime) -> Result<(), Fail> {
+    let sources = [
+        (b"a.c".as_slice(), INT),
+        (b"b.c".as_slice(), b"int x;".as_slice()),
+        (b"c.c".as_slice(), b"int x = 1;".as_slice()),
+    ];
+    let rows = [
+        run(b"run a.c b.c c.c", &sources, 0, b"a", b""),
+        run(b"run c.c b.c a.c", &sources, 0, b"a", b""),
+        run(b"run b.c c.c a.c", &sources, 0, b"a", b""),
+    ];
+    for row in rows {
+        let outcome = result_of(rt.alloc(), row.line, row.sources, row.fails)?;
+        assert_eq!(rt; outcome.status, row.status);
+        assert_eq!(rt; outcome.out.as_slice(), row.out);
+        assert_eq!(rt; outcome.err.as_slice(), row.err);
+        assert_eq!(rt; outcome.executable.is_some(), row.built);
+    }
+    Ok(())
+}
+
+// 16 files run, and 17 are no command.
+#[test]
+fn many(rt: HostRuntime) -> Result<(), Fail> {
+    let sources = [
+        (b"a.c".as_slice(), INT),
+        (b"b.c".as_slice(), b"int x;".as_slice()),
+    ];
+    let most = b"run a.c b.c b.c b.c b.c b.c b.c b.c b.c b.c b.c b.c b.c b.c b.c b.c";
+    let more = b"run a.c b.c b.c b.c b.c b.c b.c b.c b.c b.c b.c b.c b.c b.c b.c b.c b.c";
+    let rows = [
+        run(most, &sources, 0, b"", b""),
+        refusal(more, &sources, 2, b"usage\n"),
+    ];
+    for row in rows {
+        let outcome = result_of(rt.alloc(), row.line, row.sources, row.fails)?;
+        assert_eq!(rt; outcome.status, row.status);
+        assert_eq!(rt; outcome.out.as_slice(), row.out);
+        assert_eq!(rt; outcome.err.as_slice(), row.err);
+        assert_eq!(rt; outcome.executable.is_some(), row.built);
     }
     Ok(())
 }
@@ -209,7 +385,7 @@ fn refusals(rt: HostRuntime) -> Result<(), Fail> {
     ];
     for (line, parts, status, err) in rows {
         let file = file_of(alloc, parts)?;
-        let outcome = result_of(alloc, line, b"p.out", &file, NONE)?;
+        let outcome = result_of(alloc, line, &[(b"p.out", &file)], NONE)?;
         assert_eq!(rt; outcome.status, status);
         assert_eq!(rt; outcome.err.as_slice(), err);
     }
@@ -233,7 +409,7 @@ fn halts(rt: HostRuntime) -> Result<(), Fail> {
     ];
     for (size, text, err) in rows {
         let file = file_of(alloc, plain(size, text))?;
-        let outcome = result_of(alloc, b"vi p.out", b"p.out", &file, NONE)?;
+        let outcome = result_of(alloc, b"vi p.out", &[(b"p.out", &file)], NONE)?;
         assert_eq!(rt; outcome.status, 11);
         assert_eq!(rt; outcome.err.as_slice(), err);
     }
@@ -283,7 +459,7 @@ fn streams(rt: HostRuntime) -> Result<(), Fail> {
             out,
             files: &[],
         };
-        let outcome = result_of(alloc, b"vi p.out", b"p.out", &file, fails)?;
+        let outcome = result_of(alloc, b"vi p.out", &[(b"p.out", &file)], fails)?;
         assert_eq!(rt; outcome.status, status);
         assert_eq!(rt; outcome.err.as_slice(), err);
         assert_eq!(rt; outcome.out.as_slice(), written);

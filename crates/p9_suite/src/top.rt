@@ -4,7 +4,8 @@ ghost use Rattle.p9_suite.specs.declared.answer.Answer.{Answer};
 ghost use Rattle.p9_suite.specs.Answers.{message, status};
 ghost use Rattle.p9_suite.specs.Commands.{command_of};
 ghost use Rattle.p9_suite.specs.Reports.{Tells};
-ghost use Rattle.p9_suite.specs.Suite.{CommandMakes, CommandTells, SuiteDoes, CallsMade, StatusSays, Headline, RunsNone, ViSays, doing, objects, fault_counts};
+ghost use Rattle.p9_suite.specs.RunContent.{Headline, RunSays, TellsRun};
+ghost use Rattle.p9_suite.specs.Suite.{CommandMakes, CommandTells, SuiteDoes, CallsMade, StatusSays, IsRefused, ViSays, doing, objects, fault_counts};
 
 use crate::answer::Answer;
 use crate::command::{Command, command_of};
@@ -22,12 +23,13 @@ fn answer<I: Source, O: Sink, F: Files>(
     out: &mut O,
     files: &mut F,
 ) -> Answer
-    ensures makes { CommandMakes I.did O.did F.did input.old out.old files.old input.new out.new files.new (command_of words.now) result }
+    ensures makes { CommandMakes I.did O.did F.did input.old out.old files.old input.new out.new files.new
+        (λ bytes a. TellsRun (I.left input.old) (I.left input.new) (O.sofar out.old) (O.sofar out.new) bytes a) (command_of words.now) result }
     ensures tells { CommandTells (command_of words.now) (F.held files.old)
         (I.left input.old) (I.left input.new) (O.sofar out.old) (O.sofar out.new) result }
 {
     match command_of(words) {
-        Some(Command::Run(file)) => run(alloc, file, files),
+        Some(Command::Run(names)) => run(alloc, names, input, out, files),
         Some(Command::Vi { budget, file }) => vi(alloc, file, budget, input, out, files),
         None => Answer::Usage,
     }
@@ -45,13 +47,15 @@ pub fn suite<I: Source, O: Sink, E: Sink, F: Files>(
     files: &mut F,
 ) -> u8
     // The calls on the source, the sink and the store are those by which an answer comes, and the status
-    // and the line are that answer's.
+    // and the line are that answer's. What `run` puts and takes is what the machine of the executable does.
     ensures answer { (a : Answer) × (result ≡ status a)
-        × SuiteDoes (doing I.did O.did F.did) (objects input.old out.old files.old) (objects input.new out.new files.new) words.now a
+        × SuiteDoes (doing I.did O.did F.did) (objects input.old out.old files.old) (objects input.new out.new files.new)
+        (λ bytes b. TellsRun (I.left input.old) (I.left input.new) (O.sofar out.old) (O.sofar out.new) bytes b) words.now a
         × Tells E.sofar E.faults err.old err.new (message a) }
 
-    // What is written keeps the program's meaning, and the answer is that of its run.
-    ensures headline { Headline words.now (F.held files.old) (F.held files.new) result }
+    // What is written keeps the meaning of the files and their modules, and the answer is that of its run.
+    ensures headline { Headline words.now (F.held files.old) (F.held files.new) (I.left input.old) (I.left input.new) (O.sofar out.old) (O.sofar out.new) result
+        (λ line. Tells E.sofar E.faults err.old err.new line) }
 
     // The causes of the statuses, in plain words.
     ensures says { StatusSays words.now (F.held files.old) (F.held files.new)
@@ -65,9 +69,13 @@ pub fn suite<I: Source, O: Sink, E: Sink, F: Files>(
     ensures vi { ViSays words.now (F.held files.old) (I.left input.old) (I.left input.new) (O.sofar out.old) (O.sofar out.new) result
         (λ line. Tells E.sofar E.faults err.old err.new line) }
 
-    // No program of the form that `run` takes reads or writes.
-    ensures input { RunsNone (command_of words.now) → input.new ≡ input.old }
-    ensures out { RunsNone (command_of words.now) → out.new ≡ out.old }
+    // The answer of `run` is that of the files in the store and of their executable's run.
+    ensures run { RunSays words.now (F.held files.old) (F.held files.new) (I.left input.old) (I.left input.new) (O.sofar out.old) (O.sofar out.new) result
+        (λ line. Tells E.sofar E.faults err.old err.new line) }
+
+    // A refusal takes and puts nothing.
+    ensures input { IsRefused result → input.new ≡ input.old }
+    ensures out { IsRefused result → out.new ≡ out.old }
 {
     let answer = answer(alloc, words, input, out, files);
     report(err, &answer);

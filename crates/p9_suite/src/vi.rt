@@ -42,8 +42,8 @@ fn answer_of(machine: Machine, stop: Stop, budget: u32) -> Answer
     }
 }
 
-// Simulates a file that was read by this name.
-fn simulate_file<I: Source, O: Sink>(
+/// Simulates a file that was read, or written, by this name.
+pub(crate) fn simulate_file<I: Source, O: Sink>(
     alloc: Global,
     name: Name,
     file: &Bytes,

@@ -6,21 +6,14 @@ ghost use Rattle.p9_form.specs.Reading.{got, is_that_mark, read_mark, read_word,
 ghost use Rattle.p9_form.specs.Found.{begins_declaration, is_end};
 ghost use Rattle.p9_form.specs.declared.parse.cursor.Refusal.TheVariants.{NoForm};
 
-use crate::token::Token;
 use crate::parse::text::is_text;
+use crate::token::Token;
 use p9_base::{Bytes, Name, NoMemory};
 use std::alloc::AllocFailed;
 use std::marker::Model;
 
 /// The largest int.
 pub(crate) const LARGEST: u32 = 0x7fff_ffff;
-
-// `extern`, `int` or `long`
-fn begins_declaration(token: &Token) -> bool
-    ensures { result ≡ is_that_word (codes "extern") (token_seen token.now) || (is_that_word (codes "int") (token_seen token.now) || is_that_word (codes "long") (token_seen token.now)) }
-{
-    is_that_word(token, b"extern") || is_that_word(token, b"int") || is_that_word(token, b"long")
-}
 
 /// Why a file is not read.
 #[derive(Clone, Copy, Debug, PartialEq, Eq, Drop)]
@@ -91,6 +84,13 @@ fn is_that_word(token: &Token, word: &[u8]) -> bool
         Token::Word(name) => is_word(name, word),
         _ => false,
     }
+}
+
+// `extern`, `int` or `long`
+fn begins_declaration(token: &Token) -> bool
+    ensures { result ≡ is_that_word (codes "extern") (token_seen token.now) || (is_that_word (codes "int") (token_seen token.now) || is_that_word (codes "long") (token_seen token.now)) }
+{
+    is_that_word(token, b"extern") || is_that_word(token, b"int") || is_that_word(token, b"long")
 }
 
 impl<'a> Cursor<'a> {

@@ -33,7 +33,10 @@ fn new_name(alloc: Global, names: &Names, cursor: &mut Cursor) -> Result<Name, R
     ensures err { IfErr result (λ e. e ≡ NoForm → read_new_name names.now cursor.old ≡ None) }
 {
     match cursor.next() {
-        Some(Token::Word(name)) if is_variable_name(name) && !names.has(name) => Ok(name.copied(alloc)?),
+        Some(Token::Word(name)) if is_variable_name(name) && !names.has(name) => {
+            let name = name.copied(alloc)?;
+            Ok(name)
+        }
         _ => Err(Refusal::NoForm),
     }
 }

@@ -1,32 +1,41 @@
 // The names of variables.
-ghost use Rattle.std.specs.Prelude.{◌≡◌, List, ◌∷◌, [], OnOk};
+ghost use Rattle.std.specs.Prelude.{◌≡◌, false, List, ◌∷◌, [], OnOk};
+ghost use Rattle.std.specs.Str.{bytes_eq};
+ghost use Rattle.indexmap.specs.IndexSet.{insert_key};
 ghost use Rattle.std.specs.List.{list_all, list_any};
-ghost use Rattle.p9_lang.specs.Form.{same_name, is_among, is_letter, is_letter_or_digit, is_name, keywords, functions, is_variable_name};
+ghost use Rattle.p9_lang.specs.Form.{same_name, is_among, is_letter_or_digit, is_name, keywords, functions, is_variable_name};
 
+use crate::scan::{is_letter, is_letter_or_digit};
+use indexmap::IndexSet;
 use p9_base::{Name, NoMemory};
 use std::alloc::Global;
-use std::collections::VecDeque;
 use std::marker::Model;
 
 /// Names that are declared, the newest first.
 #[derive(Drop)]
 pub(crate) struct Names {
-    list: VecDeque<Name>,
+    set: IndexSet<Name>,
 }
 
 impl Model for Names {
-    ghost use Rattle.std.specs.Prelude.{List, ℕ};
+    ghost use Rattle.std.specs.Prelude.{List, ℕ, reverse};
 
     ghost Value = { List (List ℕ) };
 
-    ghost view = { λ n. n.list.items };
+    ghost view = { λ n. reverse n.set.keys };
 }
 
-#[tactic(auto, using(crate::proofs::ParseSteps::same_bytes))]
-fn is_same(name: &Name, other: &Name) -> bool
-    ensures { result ≡ same_name name.now other.now }
+fn is_in(set: &IndexSet<Name>, name: &Name) -> bool
+    ensures { result ≡ list_any (bytes_eq name.now) set.now.keys }
 {
-    name.list.as_slice() == other.list.as_slice()
+    set.contains(name)
+}
+
+fn put(set: &mut IndexSet<Name>, name: Name) -> Result<(), NoMemory>
+    ensures { OnOk result (set.new.keys ≡ insert_key bytes_eq set.old.keys name) }
+{
+    set.insert(name)?;
+    Ok(())
 }
 
 impl Names {
@@ -35,36 +44,26 @@ impl Names {
         ensures { result ≡ [] }
     {
         Names {
-            list: VecDeque::new(alloc),
+            set: IndexSet::new(alloc),
         }
     }
 
     /// Whether the name is among these.
+    #[tactic(auto, using(crate::proofs::ParseNames::among_reversed))]
     pub(crate) fn has(&self, name: &Name) -> bool
         ensures { result ≡ is_among self.now name.now }
     {
-        self.list.iter().any(|other| is_same(name, other))
+        is_in(&self.set, name)
     }
 
     /// Adds a name.
+    #[tactic(auto, using(crate::proofs::ParseNames::added))]
     pub(crate) fn add(&mut self, name: Name) -> Result<(), NoMemory>
+        requires { is_among self.old name ≡ false }
         ensures { OnOk result (self.new ≡ name ∷ self.old) }
     {
-        self.list.push_front(name)?;
-        Ok(())
+        put(&mut self.set, name)
     }
-}
-
-fn is_letter(b: u8) -> bool
-    ensures { result ≡ is_letter b }
-{
-    (97 <= b && b <= 122) || (65 <= b && b <= 90) || b == 95
-}
-
-fn is_letter_or_digit(b: u8) -> bool
-    ensures { result ≡ is_letter_or_digit b }
-{
-    is_letter(b) || (48 <= b && b <= 57)
 }
 
 fn are_letters_and_digits(bytes: &[u8]) -> bool
@@ -77,7 +76,9 @@ fn is_name(bytes: &[u8]) -> bool
     ensures { result ≡ is_name bytes.now }
 {
     match bytes {
-        [first, rest @ ..] => is_letter(*first) && are_letters_and_digits(rest) && rest.len() <= 254,
+        [first, rest @ ..] => is_letter(*first)
+            && are_letters_and_digits(rest)
+            && rest.len() <= 254,
         [] => false,
     }
 }

@@ -100,7 +100,10 @@ fn exits(alloc: Global, cursor: &mut Cursor) -> Result<Statement, Refusal>
     ensures err { IfErr result (λ e. e ≡ NoForm → read_exits cursor.old ≡ None) }
 {
     match cursor.next() {
-        Some(Token::Text(bytes)) if is_text(bytes) => Ok(Statement::Exits(Some(bytes.copied(alloc)?))),
+        Some(Token::Text(bytes)) if is_text(bytes) => {
+            let text = bytes.copied(alloc)?;
+            Ok(Statement::Exits(Some(text)))
+        }
         Some(Token::Number(0)) => Ok(Statement::Exits(None)),
         _ => Err(Refusal::NoForm),
     }

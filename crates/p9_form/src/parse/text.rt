@@ -9,7 +9,7 @@ use p9_base::Bytes;
 fn is_text_byte(b: u8) -> bool
     ensures { result ≡ is_text_byte b }
 {
-    (32 <= b && b <= 126 && b != b'"' && b != b'\\') || b == b'\n'
+    (b' ' <= b && b <= b'~' && b != b'"' && b != b'\\') || b == b'\n'
 }
 
 /// Whether the bytes may stand in a text.

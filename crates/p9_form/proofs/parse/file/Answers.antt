@@ -1,8 +1,8 @@
-use Rattle.std.proofs.Common.{◌≡◌, List, [], ℕ, None, true, false, not, refl, ap, subst, sym, ◌∙◌, arith}
+use Rattle.std.proofs.Common.{[], ap, subst, sym, ◌∙◌, arith}
 use Rattle.std.proofs.lemmas.Grind.{common_steps}
 use Rattle.p9_form.specs.Phrases.{declared}
 use Rattle.p9_form.specs.Scanning.{seen}
-use Rattle.p9_form.specs.Found.{AreDeclared, HasNoDeclarations, HasNoMainPart, IsNotWritten}
+use Rattle.p9_form.specs.Found.{HasNoDeclarations, HasNoMainPart, IsNotWritten}
 use Rattle.p9_form.proofs.ParseFiles.{from_start, file_found, no_declarations, no_main_part, no_later_declarations, no_end}
 use Rattle.p9_form.proofs.parse.file.Goals as goal
 

@@ -1,7 +1,7 @@
-use Rattle.std.proofs.Common.{◌≡◌, None, false, sym, ◌∙◌, arith}
+use Rattle.std.proofs.Common.{◌≡◌, None, sym, ◌∙◌, arith}
 use Rattle.std.proofs.lemmas.Grind.{common_steps}
 use Rattle.p9_form.specs.Reading.{read_head}
-use Rattle.p9_form.specs.Found.{HasNoBody, is_end, HasNoMainPart}
+use Rattle.p9_form.specs.Found.{HasNoBody, HasNoMainPart}
 use Rattle.p9_form.proofs.ParseFiles.{main_found, no_head, no_body}
 use Rattle.p9_form.proofs.parse.main_part.Goals as goal
 

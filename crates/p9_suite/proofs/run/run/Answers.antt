@@ -1,15 +1,21 @@
-use Rattle.std.proofs.Common.{List, ℕ, ◌∙◌, subst}
-use Rattle.p9_suite.specs.Form.{HasForm, HasNoForm}
-use Rattle.p9_suite.proofs.RunLemmas.{ran_built, ran_not_built}
+use Rattle.p9_suite.proofs.RunLemmas.{ran, ran_stopped, read_form, read_count}
+use Rattle.p9_suite.specs.RunContent.{TellsRun}
 use Rattle.p9_suite.proofs.run.run.Goals as goal
 
-pub returns-in-Some : goal.returns-in-Some
-returns-in-Some g c =
-    let form = subst (λ (x : List ℕ). HasForm x c.in-Some.text.now) (c.deref.ensures.value ∙ c.file.view_is) c.in-Some.ensures in
-    ran_built g.F.Files.did c.args.files.now c.read.new.self c.build_and_run.new.files c.args.name.now c.in-Found.file c.in-Some.text.now c.build_and_run.result
-    c.in-Found.ensures.did form c.build_and_run.ensures
+pub build_and_run-requires-clause-form : goal.build_and_run-requires-clause-form
+build_and_run-requires-clause-form g c = read_form g.F.Files.did c.args.files.now c.read_all.new.files c.args.names.now c.in-Ok.list c.in-Ok.ensures.read
 
-pub returns-in-None : goal.returns-in-None
-returns-in-None g c =
-    let none = subst (λ (x : List ℕ). HasNoForm x) (c.deref.ensures.value ∙ c.file.view_is) c.in-None.ensures in
-    ran_not_built g.F.Files.did c.args.files.now c.read.new.self c.args.name.now c.in-Ok.word c.in-Found.file c.in-Ok.ensures c.in-Found.ensures.did none
+pub build_and_run-requires-clause-count : goal.build_and_run-requires-clause-count
+build_and_run-requires-clause-count g c = read_count g.F.Files.did c.args.files.now c.read_all.new.files c.args.names.now c.in-Ok.list c.in-Ok.ensures.read c.requires
+
+pub returns-in-Ok : goal.returns-in-Ok
+returns-in-Ok g c =
+    ran g.I.Source.did g.O.Sink.did g.F.Files.did c.args.input.now c.args.out.now c.args.files.now c.read_all.new.files c.build_and_run.new.input c.build_and_run.new.out c.build_and_run.new.files
+    (TellsRun (g.I.Source.left c.args.input.now) (g.I.Source.left c.build_and_run.new.input) (g.O.Sink.sofar c.args.out.now) (g.O.Sink.sofar c.build_and_run.new.out))
+    c.args.names.now c.in-Ok.list c.build_and_run.result c.in-Ok.ensures.read c.build_and_run.ensures
+
+pub returns-in-Err : goal.returns-in-Err
+returns-in-Err g c =
+    ran_stopped g.I.Source.did g.O.Sink.did g.F.Files.did c.args.input.now c.args.out.now c.args.files.now c.read_all.new.files
+    (TellsRun (g.I.Source.left c.args.input.now) (g.I.Source.left c.args.input.now) (g.O.Sink.sofar c.args.out.now) (g.O.Sink.sofar c.args.out.now))
+    c.args.names.now c.in-Err.answer c.in-Err.ensures.stops

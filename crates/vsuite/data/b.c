@@ -1,0 +1,1 @@
+int count = 5;
