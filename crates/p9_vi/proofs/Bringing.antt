@@ -10,8 +10,8 @@ use Rattle.p9_base.specs.Calls.{StreamCall, OnInput, OnOut, Failing, Input, Out,
 use Rattle.p9_r3k.specs.Memory.{Core, over, with_bytes, text_start, stack_start}
 use Rattle.p9_r3k.specs.Machine.{answered}
 use Rattle.p9_vi.specs.Streams.{CallsDid, fill_failure}
-use Rattle.p9_vi.specs.Tied.{brought, brought_by, written, written_by, KeepRests, KeepsRest, FoundEnd}
-use Rattle.p9_vi.specs.Pieces.{Came, Brings, RoomIs, PartIs, AnswerIs, Writes}
+use Rattle.p9_vi.specs.Tied.{brought, brought_by, written, written_by, KeepRests, KeepsRest}
+use Rattle.p9_vi.specs.Pieces.{Came, Brings, RoomIs, PartIs, AnswerIs, WritesPiece}
 use Rattle.p9_vi.proofs.CallLists.{did_push, end_push}
 use Rattle.p9_vi.proofs.Pieces.{take_on, none_after, length_on, put_over}
 use borrow.Rule.Slice.PartMut.{put_mid}
@@ -226,13 +226,13 @@ writing_more puts o p q d n piece h does r =
     (ap (take n) (take_rest piece d)) refl does r
 
 pub writes_all : {O : Type 0} (puts : O → PutCall → O → Type 0) (o p : O) (d : ℕ) (piece : List ℕ) → length piece ≤ d →
-    Writing puts o p None d piece → Writes puts o p piece true
+    Writing puts o p None d piece → WritesPiece puts o p piece true
 writes_all puts o p d piece h r =
     record { calls = r.calls; did = r.did; ends = r.ends; wrote = r.wrote ∙ take_all d piece h }
 
 pub writes_part : {O : Type 0} (puts : O → PutCall → O → Type 0) (o p q : O) (d : ℕ) (piece : List ℕ) → d < length piece →
     puts p (PutPiece (take (length piece - d) (drop d piece)) put.TheVariants.Failed) q → Writing puts o p None d piece →
-    Writes puts o q piece false
+    WritesPiece puts o q piece false
 writes_part puts o p q d piece h does r =
     let w : Writing puts o q (Some Out) (d + 0) piece =
     writing_push puts o p q d 0 piece (PutPiece (take (length piece - d) (drop d piece)) put.TheVariants.Failed) (Some Out) (omega (arith, h)) refl refl does r in

@@ -5,3 +5,4 @@ pub mod Pieces
 pub mod Requests
 pub mod Stepping
 pub mod Tying
+pub mod Whole

@@ -11,13 +11,13 @@ use Rattle.p9_r3k.specs.declared.halt.HaltCause.{HaltCause}
 use Rattle.p9_r3k.specs.declared.halt.Ending.{Ending}
 use Rattle.p9_r3k.specs.declared.halt.Ending.TheVariants.{Running, Exited, Halted}
 use Rattle.p9_r3k.specs.Memory.{Core, with_bytes, bytes_from, text_start, stack_start}
-use Rattle.p9_r3k.specs.Machine.{State, state, step, run, asked, called, answered, advanced, halted}
+use Rattle.p9_r3k.specs.Machine.{State, state, step, run, called, answered, advanced, halted}
 use Rattle.p9_vi.specs.declared.stop.Stop.{Stop}
 use Rattle.p9_vi.specs.declared.stop.Stepped.TheVariants.{Done, ReadFault, WriteFault}
-use Rattle.p9_vi.specs.Stops.{IsAtCall, stop_of, stop_failure}
-use Rattle.p9_vi.specs.Steps.{Plain, PlainRun, Steps, Calls}
-use Rattle.p9_vi.specs.Tied.{Stretch, Going, Reading, calls_of, steps_of, brought, written, KeepRests, FoundEnd, DoesRead, Passes, Goes, FailsToRead, FailsToWrite, Fails, Ties, AtRequest, StepCount, StopCount}
-use Rattle.p9_vi.specs.Pieces.{Brings, AnswerIs, MemoryIs, Writes}
+use Rattle.p9_vi.specs.Stops.{stop_of, stop_failure}
+use Rattle.p9_vi.specs.Steps.{Plain, PlainRun}
+use Rattle.p9_vi.specs.Tied.{Stretch, Going, Reading, calls_of, steps_of, brought, written, DoesRead, Goes, Ties, AtRequest, StepCount, StopCount}
+use Rattle.p9_vi.specs.Pieces.{Brings, AnswerIs, MemoryIs, WritesPiece}
 use Rattle.p9_vi.proofs.CallLists.{did_takes, did_puts, end_append}
 use Rattle.p9_vi.proofs.Requests.{read_done, write_done}
 use Rattle.p9_vi.proofs.Stepping.{step_calls, plain_none, plain_more}
@@ -109,7 +109,7 @@ part_of c at n = by_place (nat_lt at stack_start)
     by_place false = omega (arith, length-take n (drop (at - stack_start) c.stack))
 
 pub ties_write : {I O : Type 0} (takes : I → TakeCall → I → Type 0) (puts : O → PutCall → O → Type 0) (i : I) (o p : O) (request : Asked) (old new : Core) (at size : ℕ) →
-    request ≡ asks.Write at size → new ≡ answered old size → Writes puts o p (bytes_from old at size) true → AtRequest request old →
+    request ≡ asks.Write at size → new ≡ answered old size → WritesPiece puts o p (bytes_from old at size) true → AtRequest request old →
     Ties takes puts i o i p None (StepCount Done) old new
 ties_write takes puts i o p request old new at size e0 e1 w (at_call, is) =
     let e : map OnOut w.calls ≡ map OnOut w.calls ++ [] = sym (append-nil (map OnOut w.calls)) in
@@ -122,7 +122,7 @@ ties_write takes puts i o p request old new at size e0 e1 w (at_call, is) =
     (new, (λ l s. one l s ∙ sym (one_run (state old l s))), refl) refl
 
 pub ties_write_failed : {I O : Type 0} (takes : I → TakeCall → I → Type 0) (puts : O → PutCall → O → Type 0) (i : I) (o p : O) (request : Asked) (old new : Core) (at size : ℕ) →
-    request ≡ asks.Write at size → new ≡ old → Writes puts o p (bytes_from old at size) false → AtRequest request old →
+    request ≡ asks.Write at size → new ≡ old → WritesPiece puts o p (bytes_from old at size) false → AtRequest request old →
     Ties takes puts i o i p (Some Out) (StepCount WriteFault) old new
 ties_write_failed takes puts i o p request old new at size e0 e1 w (at_call, is) = record {
   stretches = [];

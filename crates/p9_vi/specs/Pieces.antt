@@ -49,7 +49,7 @@ Wrote piece true bytes = bytes ≡ piece
 Wrote piece false bytes = (bytes ≡ take (length bytes) piece) × (length bytes < length piece)
 
 -- puts wrote the bytes of a piece
-pub record Writes {O : Type 0} (puts : O → PutCall → O → Type 0) (old new : O) (piece : List ℕ) (result : Bool) : Type 0 where
+pub record WritesPiece {O : Type 0} (puts : O → PutCall → O → Type 0) (old new : O) (piece : List ℕ) (result : Bool) : Type 0 where
   pub calls : List PutCall
   pub did : CallsDid puts old calls new
   pub ends : StreamsEnd (map OnOut calls) (puts_failure result)

@@ -1,5 +1,5 @@
 -- What the calls of a run brought and put, and how the machine's run reads and writes it, whatever the objects tell.
-use Rattle.std.specs.Prelude.{◌≡◌, ◌<◌, ◌≤◌, ℕ, suc, ◌+◌, List, [], ◌∷◌, ◌++◌, length, take, drop, map, Option, Some, None}
+use Rattle.std.specs.Prelude.{◌≡◌, ◌<◌, ◌≤◌, ℕ, ◌+◌, List, [], ◌∷◌, ◌++◌, length, take, drop, map, Option, Some, None}
 use Rattle.p9_base.specs.declared.outside.Took as took
 use Rattle.p9_base.specs.declared.outside.Put as put
 use Rattle.p9_base.specs.Outside.{TakeCall, Take, PutCall, PutPiece}
@@ -51,6 +51,36 @@ abbrev pub FoundEnd : List TakeCall → Type 0
 FoundEnd calls =
     (before : List TakeCall) × (room : List ℕ) × (filled : List ℕ)
     × (calls ≡ before ++ Take room filled took.TheVariants.End ∷ [])
+
+-- the same of calls on both, in their order
+
+abbrev pub brought_in : List StreamCall → List ℕ
+brought_in [] = []
+brought_in (OnInput call ∷ calls) = brought_by call ++ brought_in calls
+brought_in (OnOut call ∷ calls) = brought_in calls
+
+abbrev pub written_in : List StreamCall → List ℕ
+written_in [] = []
+written_in (OnInput call ∷ calls) = written_in calls
+written_in (OnOut call ∷ calls) = written_by call ++ written_in calls
+
+-- a source whose end was found brings nothing after it
+abbrev pub StaysEnded : TakeCall → (after : List ℕ) → Type 0
+StaysEnded (Take room filled (took.TheVariants.Got n)) after = Unit {0}
+StaysEnded (Take room filled took.TheVariants.End) after = after ≡ []
+StaysEnded (Take room filled took.TheVariants.Failed) after = Unit {0}
+
+-- each take leaves the rest of its room, and nothing comes after the end, also not these bytes
+abbrev pub IsSteady : List StreamCall → (after : List ℕ) → Type 0
+IsSteady [] after = Unit {0}
+IsSteady (OnInput call ∷ calls) after = KeepsRest call × StaysEnded call (brought_in calls ++ after) × IsSteady calls after
+IsSteady (OnOut call ∷ calls) after = IsSteady calls after
+
+-- the machine's run reads what these calls brought and writes what they wrote
+abbrev pub IsRunOn : List StreamCall → (steps : ℕ) (old new : Core) → Type 0
+IsRunOn calls steps old new =
+    (l s : List ℕ) → IsSteady calls l →
+    state new l (s ++ written_in calls) ≡ run steps (state old (brought_in calls ++ l) s)
 
 -- Stretches of a run
 

@@ -2,7 +2,7 @@
 ghost use Rattle.std.specs.Prelude.{◌≡◌, ◌<◌, ◌≤◌, ◌+◌, length, IfSome};
 ghost use Rattle.p9_vi.specs.Steps.{FillsPart, PartChanges};
 ghost use Rattle.p9_vi.specs.Streams.{Fills, FillCause, PutsAll, PutsCause, TakesRan, PutsRan, fill_failure, puts_failure};
-ghost use Rattle.p9_vi.specs.Pieces.{Brings, RoomIs, PartIs, Writes};
+ghost use Rattle.p9_vi.specs.Pieces.{Brings, RoomIs, PartIs, WritesPiece};
 
 use p9_base::{Put, Sink, Source, Took};
 
@@ -30,7 +30,7 @@ pub fn put_all<O: Sink>(out: &mut O, piece: &[u8]) -> bool
     ensures put { PutsAll (O.sofar out.old) (O.sofar out.new) piece.now result }
     ensures cause { PutsCause (O.faults out.old) (O.faults out.new) result }
     ensures calls { PutsRan O.did out.old out.new (puts_failure result) }
-    ensures writes { Writes O.did out.old out.new piece.now result }
+    ensures writes { WritesPiece O.did out.old out.new piece.now result }
 {
     let mut done = 0;
     while done < piece.len() {

@@ -5,7 +5,7 @@ ghost use Rattle.p9_r3k.specs.Machine.{answered};
 ghost use Rattle.p9_vi.specs.Streams.{FillCause, PutsCause, TakesRan, PutsRan, StreamsRan, fill_failure, puts_failure};
 ghost use Rattle.p9_vi.specs.Stops.{Told, stop_of};
 ghost use Rattle.p9_vi.specs.Steps.{FillsRoom, RoomChanges, Reads, ReadKeeps, read_failure, PutsPiece, Calls, CallKeeps, StepCause, step_failure, Steps, StepStands};
-ghost use Rattle.p9_vi.specs.Pieces.{Brings, ReadBrings, MemoryIs, Writes};
+ghost use Rattle.p9_vi.specs.Pieces.{Brings, ReadBrings, MemoryIs, WritesPiece};
 ghost use Rattle.p9_vi.specs.Tied.{AtRequest, Ties, StepCount};
 ghost use Rattle.p9_vi.specs.Kept.{CanAsk};
 
@@ -66,7 +66,7 @@ impl Machine {
         ensures after { self.new ≡ (if result then answered self.old count else self.old) }
         ensures cause { PutsCause (O.faults out.old) (O.faults out.new) result }
         ensures calls { PutsRan O.did out.old out.new (puts_failure result) }
-        ensures writes { Writes O.did out.old out.new (bytes_from self.old at count) result }
+        ensures writes { WritesPiece O.did out.old out.new (bytes_from self.old at count) result }
     {
         if put_all(out, self.bytes(at, count)) {
             self.answer(count);
