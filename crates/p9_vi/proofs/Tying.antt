@@ -132,18 +132,18 @@ ties_write_failed takes puts i o p request old new at size e0 e1 w (at_call, is)
   before = old;
   goes = refl;
   fails = (
-      w.calls,
-      refl,
-      record {
-        at_call = at_call;
-        piece = at;
-        size = size;
-        writes = sym is ∙ e0;
-        part = omega (arith, part_of old at size, w.wrote.1);
-        is = w.wrote.0;
-        stays = e1;
-      },
-    );
+    w.calls,
+    refl,
+    record {
+      at_call = at_call;
+      piece = at;
+      size = size;
+      writes = sym is ∙ e0;
+      part = omega (arith, part_of old at size, w.wrote.1);
+      is = w.wrote.0;
+      stays = e1;
+    },
+  );
   count = refl;
 }
 
@@ -207,20 +207,20 @@ ties_read_failed takes puts i j o request old new at size e0 b (at_call, is) = r
   before = old;
   goes = refl;
   fails = (
-      b.calls,
-      refl,
-      record {
-        at_call = at_call;
-        room = at;
-        size = size;
-        reads = sym is ∙ e0;
-        part = b.came;
-        rest = b.rest;
-        fill = b.fill;
-        is = b.is;
-        kept = b.kept;
-      },
-    );
+    b.calls,
+    refl,
+    record {
+      at_call = at_call;
+      room = at;
+      size = size;
+      reads = sym is ∙ e0;
+      part = b.came;
+      rest = b.rest;
+      fill = b.fill;
+      is = b.is;
+      kept = b.kept;
+    },
+  );
   count = refl;
 }
 

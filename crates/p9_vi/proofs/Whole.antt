@@ -1,12 +1,12 @@
 -- Stretches as one run: what all takes brought is its input, and what all puts wrote its output.
-use Rattle.std.proofs.Common.{◌≡◌, ℕ, ◌+◌, List, [], ◌∷◌, ◌++◌, map, None, refl, sym, ◌∙◌, ap, subst, append_assoc, append-nil}
+use Rattle.std.proofs.Common.{◌≡◌, ℕ, ◌+◌, List, [], ◌∷◌, ◌++◌, map, Option, None, refl, sym, ◌∙◌, ap, subst, append_assoc, append-nil}
 use Rattle.p9_base.specs.declared.outside.Took as took
 use Rattle.p9_base.specs.Outside.{TakeCall, Take, PutCall}
-use Rattle.p9_base.specs.Calls.{StreamCall, OnInput, OnOut, StreamsDid, StreamsEnd}
+use Rattle.p9_base.specs.Calls.{StreamCall, OnInput, OnOut, Failing, StreamsDid, StreamsEnd}
 use Rattle.p9_r3k.specs.Memory.{Core}
 use Rattle.p9_r3k.specs.Machine.{State, state, step, run}
 use Rattle.p9_r3k.proofs.Runs.{run-sum}
-use Rattle.p9_vi.specs.Tied.{Stretch, Going, Reading, calls_of, steps_of, brought, brought_by, written, written_by, brought_in, written_in, KeepRests, FoundEnd, IsSteady, Goes, Ties, IsRunOn}
+use Rattle.p9_vi.specs.Tied.{Stretch, Going, Reading, calls_of, steps_of, brought, brought_by, written, written_by, brought_in, written_in, KeepRests, FoundEnd, IsSteady, Goes, Fails, Ties, IsRunOn}
 
 -- Lists of calls
 
@@ -99,3 +99,20 @@ ties_whole takes puts i j o p Count old new t =
     let Q : List StreamCall → Type 0 = λ calls. StreamsEnd calls None in
     let R : Core → Type 0 = λ c. IsRunOn (calls_of t.stretches) (steps_of t.stretches) old c in
     (calls_of t.stretches, subst P e t.did, subst Q e t.ends, steps_of t.stretches, t.count, subst R (sym t.fails.1) (goes_whole t.stretches old t.before t.goes))
+
+-- a run up to what failed, by its calls alone
+pub ties_runs : {I O : Type 0} (takes : I → TakeCall → I → Type 0) (puts : O → PutCall → O → Type 0) (i j : I) (o p : O) (failed : Option Failing) (Count : ℕ → Type 0) (old new : Core) →
+    Ties takes puts i o j p failed Count old new →
+    (calls : List StreamCall) × (last : List StreamCall) × StreamsDid takes puts i o (calls ++ last) j p × StreamsEnd (calls ++ last) failed
+    × (n : ℕ) × Count n × (before : Core) × IsRunOn calls n old before × Fails failed last before new
+ties_runs takes puts i j o p failed Count old new t = (
+  calls_of t.stretches,
+  t.last,
+  t.did,
+  t.ends,
+  steps_of t.stretches,
+  t.count,
+  t.before,
+  goes_whole t.stretches old t.before t.goes,
+  t.fails,
+)

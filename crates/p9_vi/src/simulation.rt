@@ -8,7 +8,8 @@ use crate::stop::{Stepped, Stop};
 use p9_base::{Sink, Source};
 
 /// Runs the machine for at most `budget` instructions. After `Budget` and after a fault a later call
-/// goes on from where the machine stands.
+/// goes on from where the machine stands. Whatever the streams tell, the calls that are made on them are
+/// those of the machine's steps: it reads what takes brought, and puts write what it writes.
 pub fn simulate<I: Source, O: Sink>(
     m: &mut Machine,
     input: &mut I,
