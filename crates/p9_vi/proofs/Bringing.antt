@@ -1,6 +1,6 @@
 -- Rooms that takes fill and pieces that puts write, a part at a time, with the bytes of the calls.
 use Rattle.std.proofs.Common.{◌≡◌, ◌≤◌, ◌<◌, ℕ, ◌+◌, ◌-◌, List, [], ◌∷◌, ◌++◌, length, take, drop, map, Option, Some, None, Bool, true, false, if◌then◌else◌, nat_lt, refl, sym, ◌∙◌, ap, subst, arith, append_assoc, append-nil, length-append, length-drop}
-use Rattle.std.proofs.lemmas.List.{take-append-drop, drop-drop, take_rest, take_all, length-take-le, map-append}
+use Rattle.std.proofs.lemmas.List.{take-append-drop, drop-drop, take_rest, take_all, length-take-le, map-append, nil_from_length}
 use Rattle.std.proofs.Math.Seq.{take-append-add, drop-append_seam}
 use Rattle.std.proofs.Math.ListN.{drop_of_length-le}
 use Rattle.p9_base.specs.declared.outside.Took as took
@@ -10,7 +10,7 @@ use Rattle.p9_base.specs.Calls.{StreamCall, OnInput, OnOut, Failing, Input, Out,
 use Rattle.p9_r3k.specs.Memory.{Core, over, with_bytes, text_start, stack_start}
 use Rattle.p9_r3k.specs.Machine.{answered}
 use Rattle.p9_vi.specs.Streams.{CallsDid, fill_failure}
-use Rattle.p9_vi.specs.Tied.{brought, brought_by, written, written_by, KeepRests, KeepsRest}
+use Rattle.p9_vi.specs.Tied.{brought, brought_by, rest_by, rest_after, filled_by, written, written_by, KeepRests, KeepsRest}
 use Rattle.p9_vi.specs.Pieces.{Came, Brings, RoomIs, PartIs, AnswerIs, WritesPiece}
 use Rattle.p9_vi.proofs.CallLists.{did_push, end_push}
 use Rattle.p9_vi.proofs.Pieces.{take_on, none_after, length_on, put_over}
@@ -32,6 +32,14 @@ keep_split : (calls : List TakeCall) (call : TakeCall) → KeepRests (calls ++ c
 keep_split [] call h = (tt, h.0)
 keep_split (c ∷ cs) call h = let both = keep_split cs call h.1 in ((h.0, both.0), both.1)
 
+rest_push : (rest : List ℕ) (calls : List TakeCall) (call : TakeCall) → rest_after rest (calls ++ call ∷ []) ≡ rest_by call
+rest_push rest [] call = refl
+rest_push rest (c ∷ cs) call = rest_push (rest_by c) cs call
+
+rest_same : (rest : List ℕ) (calls : List TakeCall) → (calls ≡ [] → rest ≡ []) → rest_after rest calls ≡ rest_after [] calls
+rest_same rest [] h = h refl
+rest_same rest (c ∷ cs) h = refl
+
 -- A room
 
 -- so many bytes were brought into the room
@@ -41,12 +49,13 @@ pub record Filling {I : Type 0} (takes : I → TakeCall → I → Type 0) (old n
   pub ends : StreamsEnd (map OnInput calls) failed
   pub count : length (brought calls) ≡ done
   pub front : take done filled ≡ brought calls
+  pub rest : drop done filled ≡ rest_after room calls
   pub size : length filled ≡ length room
   pub kept : KeepRests calls → drop done filled ≡ drop done room
 
 pub filling_none : {I : Type 0} (takes : I → TakeCall → I → Type 0) (i : I) (room : List ℕ) → Filling takes i i None 0 room room
 filling_none takes i room =
-    record { calls = []; did = refl; ends = tt; count = refl; front = refl; size = refl; kept = λ h. refl }
+    record { calls = []; did = refl; ends = tt; count = refl; front = refl; rest = refl; size = refl; kept = λ h. refl }
 
 behind : (d n : ℕ) (xs ys : List ℕ) → d ≤ length xs →
     (take (d + n) (take d xs ++ ys) ≡ take d xs ++ take n ys) × (drop (d + n) (take d xs ++ ys) ≡ drop n ys)
@@ -64,10 +73,10 @@ middle d room filled = rw (none_after room d, append-nil filled) refl
 -- one more take, with its place at the list's end
 filling_push : {I : Type 0} (takes : I → TakeCall → I → Type 0) (i j k : I) (d n : ℕ) (room filled new : List ℕ) (call : TakeCall) (failed : Option Failing) →
     d ≤ length filled → length new ≡ length (take (length filled - d) (drop d filled)) → n ≤ length new →
-    brought_by call ≡ take n new → (KeepsRest call → drop n new ≡ drop n (take (length filled - d) (drop d filled))) →
+    brought_by call ≡ take n new → rest_by call ≡ drop n new → (KeepsRest call → drop n new ≡ drop n (take (length filled - d) (drop d filled))) →
     stream_failure (OnInput call) ≡ failed → takes j call k → (r : Filling takes i j None d room filled) →
     (f : Filling takes i k failed (d + n) room (put_mid d (length filled - d) filled new)) × (f.calls ≡ r.calls ++ call ∷ [])
-filling_push takes i j k d n room filled new call failed h e w b keeps fails does r =
+filling_push takes i j k d n room filled new call failed h e w b left keeps fails does r =
     let P : List StreamCall → Type 0 = λ calls. StreamsEnd calls failed in
     let m : put_mid d (length filled - d) filled new ≡ take d filled ++ new = middle d filled new in
     let both = behind d n filled new h in
@@ -79,6 +88,7 @@ filling_push takes i j k d n room filled new call failed h e w b keeps fails doe
       ends = subst P (sym (map-append OnInput r.calls (call ∷ []))) (end_push (map OnInput r.calls) (OnInput call) failed r.ends fails);
       count = ap length bytes ∙ omega (arith, length-append (brought r.calls) (take n new), r.count, length-take-le n new w);
       front = ap (take (d + n)) m ∙ (both.0 ∙ (ap (λ (x : List ℕ). x ++ take n new) r.front ∙ sym bytes));
+      rest = ap (drop (d + n)) m ∙ (both.1 ∙ sym (rest_push room r.calls call ∙ left));
       size = length_on d filled new e h ∙ r.size;
       kept = λ k.
           let (before, last) = keep_split r.calls call k in
@@ -92,14 +102,15 @@ pub filling_more : {I : Type 0} (takes : I → TakeCall → I → Type 0) (i j k
     Filling takes i k None (d + n) room (put_mid d (length filled - d) filled new)
 filling_more takes i j k d n room filled new h e w does r =
     (filling_push takes i j k d n room filled new (Take (take (length filled - d) (drop d filled)) new (took.TheVariants.Got n)) None
-    h e (omega (arith, e, w)) refl (λ x. x) refl does r).0
+    h e (omega (arith, e, w)) refl refl (λ x. x) refl does r).0
 
 -- what the room holds is what was brought, and its rest
 brings_of : {I : Type 0} (takes : I → TakeCall → I → Type 0) (i k : I) (d : ℕ) (room filled : List ℕ) (result : Option ℕ) (f : Filling takes i k (fill_failure result) d room filled) →
-    Came (length room) result f.calls → Brings takes i k (length room) result (RoomIs room filled)
-brings_of takes i k d room filled result f came =
+    drop d filled ≡ rest_after [] f.calls → Came (length room) result f.calls → Brings takes i k (length room) result (RoomIs room filled)
+brings_of takes i k d room filled result f left came =
     let all : brought f.calls ++ drop d filled ≡ filled =
     ap (λ (x : List ℕ). x ++ drop d filled) (sym f.front) ∙ take-append-drop d filled in
+    let behind_all : filled ≡ filled_by f.calls = sym all ∙ ap (λ (x : List ℕ). brought f.calls ++ x) left in
     let none : drop (length filled) room ≡ [] = drop_of_length-le room (omega (arith, f.size)) in
     let P : List ℕ → Type 0 = λ x. filled ≡ x ++ drop (length x) room in
     record {
@@ -107,16 +118,16 @@ brings_of takes i k d room filled result f came =
       did = f.did;
       ends = f.ends;
       came = came;
-      rest = drop d filled;
-      fill = ap length all ∙ f.size;
-      is = subst P (sym all) (sym (append-nil filled) ∙ ap (λ (x : List ℕ). filled ++ x) (sym none));
+      fill = ap length (sym behind_all) ∙ f.size;
+      is = subst P behind_all (sym (append-nil filled) ∙ ap (λ (x : List ℕ). filled ++ x) (sym none));
       kept = λ h. sym all ∙ ap (λ (x : List ℕ). brought f.calls ++ x) (f.kept h ∙ ap (λ (n : ℕ). drop n room) (sym f.count));
     }
 
 pub brings_full : {I : Type 0} (takes : I → TakeCall → I → Type 0) (i k : I) (d : ℕ) (room filled : List ℕ) →
     length room ≤ d → Filling takes i k None d room filled → Brings takes i k (length room) (Some d) (RoomIs room filled)
 brings_full takes i k d room filled h f =
-    brings_of takes i k d room filled (Some d) f (sym f.count, λ l. absurd (omega (arith, h, l)))
+    let empty : f.calls ≡ [] → room ≡ [] = λ q. nil_from_length room (omega (arith, h, f.count, ap (λ (x : List TakeCall). length (brought x)) q)) in
+    brings_of takes i k d room filled (Some d) f (f.rest ∙ rest_same room f.calls empty) (sym f.count, λ l. absurd (omega (arith, h, l)))
 
 pub brings_ended : {I : Type 0} (takes : I → TakeCall → I → Type 0) (i j k : I) (d : ℕ) (room filled new : List ℕ) →
     d ≤ length filled → length new ≡ length (take (length filled - d) (drop d filled)) →
@@ -125,9 +136,9 @@ pub brings_ended : {I : Type 0} (takes : I → TakeCall → I → Type 0) (i j k
 brings_ended {I} takes i j k d room filled new h e does r =
     let part : List ℕ = take (length filled - d) (drop d filled) in
     let z : d + 0 ≡ d = omega arith in
-    let (f, is) = filling_push takes i j k d 0 room filled new (Take part new took.TheVariants.End) None h e (omega arith) refl (λ x. x) refl does r in
+    let (f, is) = filling_push takes i j k d 0 room filled new (Take part new took.TheVariants.End) None h e (omega arith) refl refl (λ x. x) refl does r in
     let P : ℕ → Type 0 = λ n. Brings takes i k (length room) (Some n) (RoomIs room (put_mid d (length filled - d) filled new)) in
-    subst P z (brings_of takes i k (d + 0) room (put_mid d (length filled - d) filled new) (Some (d + 0)) f (sym f.count, λ l. (r.calls, part, new, is)))
+    subst P z (brings_of takes i k (d + 0) room (put_mid d (length filled - d) filled new) (Some (d + 0)) f (f.rest ∙ (ap (rest_after room) is ∙ (rest_push room r.calls (Take part new took.TheVariants.End) ∙ (sym (rest_push [] r.calls (Take part new took.TheVariants.End)) ∙ ap (rest_after []) (sym is))))) (sym f.count, λ l. (r.calls, part, new, is)))
 
 pub brings_failed : {I : Type 0} (takes : I → TakeCall → I → Type 0) (i j k : I) (d : ℕ) (room filled new : List ℕ) →
     d < length filled → length new ≡ length (take (length filled - d) (drop d filled)) →
@@ -135,8 +146,8 @@ pub brings_failed : {I : Type 0} (takes : I → TakeCall → I → Type 0) (i j 
     Brings takes i k (length room) None (RoomIs room (put_mid d (length filled - d) filled new))
 brings_failed takes i j k d room filled new h e does r =
     let part : List ℕ = take (length filled - d) (drop d filled) in
-    let (f, is) = filling_push takes i j k d 0 room filled new (Take part new took.TheVariants.Failed) (Some Input) (omega (arith, h)) e (omega arith) refl (λ x. x) refl does r in
-    brings_of takes i k (d + 0) room (put_mid d (length filled - d) filled new) None f (omega (arith, f.count, r.size, h))
+    let (f, is) = filling_push takes i j k d 0 room filled new (Take part new took.TheVariants.Failed) (Some Input) (omega (arith, h)) e (omega arith) refl refl (λ x. x) refl does r in
+    brings_of takes i k (d + 0) room (put_mid d (length filled - d) filled new) None f (f.rest ∙ (ap (rest_after room) is ∙ (rest_push room r.calls (Take part new took.TheVariants.Failed) ∙ (sym (rest_push [] r.calls (Take part new took.TheVariants.Failed)) ∙ ap (rest_after []) (sym is))))) (omega (arith, f.count, r.size, h))
 
 -- A room in a list of bytes, and an empty one
 
@@ -153,16 +164,15 @@ pub brings_part : {I : Type 0} (takes : I → TakeCall → I → Type 0) (a b : 
 brings_part takes a b i n bytes filled result h r =
     let e : length (take n (drop i bytes)) ≡ n = length-take-le n (drop i bytes) (omega (arith, length-drop i bytes)) in
     let P : ℕ → Type 0 = λ m. Came m result r.calls in
-    let l : length (brought r.calls ++ r.rest) ≡ n = r.fill ∙ e in
+    let l : length (filled_by r.calls) ≡ n = r.fill ∙ e in
     record {
       calls = r.calls;
       did = r.did;
       ends = r.ends;
       came = subst P e r.came;
-      rest = r.rest;
       fill = l;
-      is = xs_over i n bytes filled (brought r.calls ++ r.rest) h (omega (arith, l)) r.is;
-      kept = λ k. xs_over i n bytes filled (brought r.calls) h (omega (arith, l, length-append (brought r.calls) r.rest)) (r.kept k);
+      is = xs_over i n bytes filled (filled_by r.calls) h (omega (arith, l)) r.is;
+      kept = λ k. xs_over i n bytes filled (brought r.calls) h (omega (arith, l, length-append (brought r.calls) (rest_after [] r.calls))) (r.kept k);
     }
 
 over_none : (bytes : List ℕ) (i : ℕ) → over bytes i [] ≡ bytes
@@ -187,7 +197,6 @@ brings_none takes i old new at size z a =
         did = refl;
         ends = tt;
         came = (refl, λ l. absurd (omega (arith, z, l)));
-        rest = [];
         fill = sym z;
         is = is;
         kept = λ k. is;

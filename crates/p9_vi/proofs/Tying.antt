@@ -16,7 +16,7 @@ use Rattle.p9_vi.specs.declared.stop.Stop.{Stop}
 use Rattle.p9_vi.specs.declared.stop.Stepped.TheVariants.{Done, ReadFault, WriteFault}
 use Rattle.p9_vi.specs.Stops.{stop_of, stop_failure}
 use Rattle.p9_vi.specs.Steps.{Plain, PlainRun}
-use Rattle.p9_vi.specs.Tied.{Stretch, Going, Reading, calls_of, steps_of, brought, written, DoesRead, Goes, Ties, AtRequest, StepCount, StopCount}
+use Rattle.p9_vi.specs.Tied.{Stretch, Going, Reading, calls_of, steps_of, brought, filled_by, rest_after, written, DoesRead, Goes, Ties, AtRequest, StepCount, StopCount}
 use Rattle.p9_vi.specs.Pieces.{Brings, AnswerIs, MemoryIs, WritesPiece}
 use Rattle.p9_vi.proofs.CallLists.{did_takes, did_puts, end_append}
 use Rattle.p9_vi.proofs.Requests.{read_done, write_done}
@@ -180,10 +180,9 @@ does_read takes i j request old new at size n e0 b h =
       size = size;
       reads = sym h.1 ∙ e0;
       short = λ l. b.came.1 (omega (arith, e, l));
-      rest = b.rest;
       fill = b.fill;
-      is = b.is ∙ ap (λ (k : ℕ). answered (with_bytes old at (brought b.calls ++ b.rest)) k) e;
-      steps = λ k l s short. read_step at size n (brought b.calls) b.rest l s request old new h e0 e b.fill (b.kept k) short;
+      is = b.is ∙ ap (λ (k : ℕ). answered (with_bytes old at (filled_by b.calls)) k) e;
+      steps = λ k l s short. read_step at size n (brought b.calls) (rest_after [] b.calls) l s request old new h e0 e b.fill (b.kept k) short;
     }
 
 pub ties_read : {I O : Type 0} (takes : I → TakeCall → I → Type 0) (puts : O → PutCall → O → Type 0) (i j : I) (o : O) (request : Asked) (old new : Core) (at size : ℕ) →
@@ -215,7 +214,6 @@ ties_read_failed takes puts i j o request old new at size e0 b (at_call, is) = r
       size = size;
       reads = sym is ∙ e0;
       part = b.came;
-      rest = b.rest;
       fill = b.fill;
       is = b.is;
       kept = b.kept;

@@ -5,7 +5,7 @@ use Rattle.p9_base.specs.Calls.{OnInput, OnOut, StreamsEnd}
 use Rattle.p9_r3k.specs.Memory.{Core, over, with_bytes}
 use Rattle.p9_r3k.specs.Machine.{answered}
 use Rattle.p9_vi.specs.Streams.{CallsDid, fill_failure, puts_failure}
-use Rattle.p9_vi.specs.Tied.{brought, written, KeepRests, FoundEnd}
+use Rattle.p9_vi.specs.Tied.{brought, filled_by, written, KeepRests, FoundEnd}
 
 -- so many bytes came, of so many asked for; or a take failed before
 abbrev pub Came : (size : ℕ) → Option ℕ → List TakeCall → Type 0
@@ -18,9 +18,8 @@ pub record Brings {I : Type 0} (takes : I → TakeCall → I → Type 0) (old ne
   pub did : CallsDid takes old calls new
   pub ends : StreamsEnd (map OnInput calls) (fill_failure result)
   pub came : Came size result calls
-  pub rest : List ℕ
-  pub fill : length (brought calls ++ rest) ≡ size
-  pub is : Becomes (brought calls ++ rest)
+  pub fill : length (filled_by calls) ≡ size
+  pub is : Becomes (filled_by calls)
   pub kept : KeepRests calls → Becomes (brought calls)
 
 -- a room, a part of a list, and a part of the memory with these bytes in front

@@ -26,6 +26,21 @@ abbrev pub brought : List TakeCall → List ℕ
 brought [] = []
 brought (call ∷ calls) = brought_by call ++ brought calls
 
+-- what a take left of its room, past what it brought
+abbrev pub rest_by : TakeCall → List ℕ
+rest_by (Take room filled (took.TheVariants.Got n)) = drop n filled
+rest_by (Take room filled took.TheVariants.End) = filled
+rest_by (Take room filled took.TheVariants.Failed) = filled
+
+-- what the last take left; where there is none, it is this
+abbrev pub rest_after : (rest : List ℕ) → List TakeCall → List ℕ
+rest_after rest [] = rest
+rest_after rest (call ∷ calls) = rest_after (rest_by call) calls
+
+-- a room that takes filled one after the other, each from where the one before it came to
+abbrev pub filled_by : List TakeCall → List ℕ
+filled_by calls = brought calls ++ rest_after [] calls
+
 -- a put that wrote n wrote the first n bytes of its piece
 abbrev pub written_by : PutCall → List ℕ
 written_by (PutPiece piece (put.TheVariants.Wrote n)) = take n piece
@@ -100,7 +115,7 @@ steps_of [] = 0
 steps_of (Going steps puts ∷ more) = steps + steps_of more
 steps_of (Reading takes ∷ more) = 1 + steps_of more
 
--- a read that these takes did: its room holds what they brought, and the rest as they left it
+-- a read that these takes did: its room holds what they brought, and the rest as the last one left it
 pub record DoesRead (takes : List TakeCall) (old new : Core) : Type 0 where
   pub at_call : IsAtCall old
   pub room : ℕ
@@ -108,9 +123,8 @@ pub record DoesRead (takes : List TakeCall) (old new : Core) : Type 0 where
   pub reads : asked old ≡ asks.Read room size
   -- fewer bytes come only where the input was at its end
   pub short : length (brought takes) < size → FoundEnd takes
-  pub rest : List ℕ
-  pub fill : length (brought takes ++ rest) ≡ size
-  pub is : new ≡ answered (with_bytes old room (brought takes ++ rest)) (length (brought takes))
+  pub fill : length (filled_by takes) ≡ size
+  pub is : new ≡ answered (with_bytes old room (filled_by takes)) (length (brought takes))
   -- it is the machine's step, which reads what they brought, and nothing of what comes after it
   pub steps : KeepRests takes → (l s : List ℕ) → (length (brought takes) < size → l ≡ []) →
       state new l s ≡ step (state old (brought takes ++ l) s)
@@ -127,16 +141,15 @@ Goes (stretch ∷ more) old new = (middle : Core) × Passes stretch old middle �
 
 -- A system call that failed
 
--- the takes brought a part, and left the rest of the room so
+-- the takes brought a part, and left the rest of the room as the last one left it
 pub record FailsToRead (takes : List TakeCall) (before new : Core) : Type 0 where
   pub at_call : IsAtCall before
   pub room : ℕ
   pub size : ℕ
   pub reads : asked before ≡ asks.Read room size
   pub part : length (brought takes) < size
-  pub rest : List ℕ
-  pub fill : length (brought takes ++ rest) ≡ size
-  pub is : new ≡ with_bytes before room (brought takes ++ rest)
+  pub fill : length (filled_by takes) ≡ size
+  pub is : new ≡ with_bytes before room (filled_by takes)
   pub kept : KeepRests takes → new ≡ with_bytes before room (brought takes)
 
 -- the puts wrote a part of the piece
