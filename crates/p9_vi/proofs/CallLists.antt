@@ -8,12 +8,12 @@ use Rattle.p9_vi.specs.Streams.{CallsDid, TakesRan, PutsRan, StreamsRan}
 
 -- How a longer list ends
 
-end_push : (calls : List StreamCall) (call : StreamCall) (failed : Option Failing) → StreamsEnd calls None → stream_failure call ≡ failed →
+pub end_push : (calls : List StreamCall) (call : StreamCall) (failed : Option Failing) → StreamsEnd calls None → stream_failure call ≡ failed →
     StreamsEnd (calls ++ call ∷ []) failed
 end_push calls call None fine e = StreamsFine-append calls (call ∷ []) fine (e, tt)
 end_push calls call (Some object) fine e = (calls, call, refl, fine, e)
 
-end_append : (calls more : List StreamCall) (failed : Option Failing) → StreamsEnd calls None → StreamsEnd more failed →
+pub end_append : (calls more : List StreamCall) (failed : Option Failing) → StreamsEnd calls None → StreamsEnd more failed →
     StreamsEnd (calls ++ more) failed
 end_append calls more None fine ends = StreamsFine-append calls more fine ends
 end_append calls more (Some object) fine ends =
@@ -22,7 +22,7 @@ end_append calls more (Some object) fine ends =
 
 -- Calls on one object
 
-did_push : {S C : Type 0} (does : S → C → S → Type 0) (i j k : S) (calls : List C) (call : C) → CallsDid does i calls j → does j call k →
+pub did_push : {S C : Type 0} (does : S → C → S → Type 0) (i j k : S) (calls : List C) (call : C) → CallsDid does i calls j → does j call k →
     CallsDid does i (calls ++ call ∷ []) k
 did_push does i j k [] call r d = (k, rw r at d, refl)
 did_push does i j k (c ∷ cs) call r d = (r.0, r.1, did_push does r.0 j k cs call r.2 d)
@@ -59,12 +59,12 @@ pub ran_none : {I O : Type 0} (takes : I → TakeCall → I → Type 0) (puts : 
     StreamsRan takes puts i o i o None
 ran_none takes puts i o = record { calls = []; did = (refl, refl); ends = tt }
 
-did_takes : {I O : Type 0} (takes : I → TakeCall → I → Type 0) (puts : O → PutCall → O → Type 0) (i j : I) (o : O) (calls : List TakeCall) →
+pub did_takes : {I O : Type 0} (takes : I → TakeCall → I → Type 0) (puts : O → PutCall → O → Type 0) (i j : I) (o : O) (calls : List TakeCall) →
     CallsDid takes i calls j → StreamsDid takes puts i o (map OnInput calls) j o
 did_takes takes puts i j o [] r = (r, refl)
 did_takes takes puts i j o (c ∷ cs) r = (r.0, o, (r.1, refl), did_takes takes puts r.0 j o cs r.2)
 
-did_puts : {I O : Type 0} (takes : I → TakeCall → I → Type 0) (puts : O → PutCall → O → Type 0) (i : I) (o p : O) (calls : List PutCall) →
+pub did_puts : {I O : Type 0} (takes : I → TakeCall → I → Type 0) (puts : O → PutCall → O → Type 0) (i : I) (o p : O) (calls : List PutCall) →
     CallsDid puts o calls p → StreamsDid takes puts i o (map OnOut calls) i p
 did_puts takes puts i o p [] r = (refl, r)
 did_puts takes puts i o p (c ∷ cs) r = (i, r.0, (r.1, refl), did_puts takes puts i r.0 p cs r.2)

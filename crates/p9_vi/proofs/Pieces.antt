@@ -25,7 +25,7 @@ seam d s t h =
     let P : ℕ → Type 0 = λ m. (take m (take d s ++ t) ≡ take d s) × (drop m (take d s ++ t) ≡ t) in
     subst P e (take-append_seam (take d s) t, drop-append_seam (take d s) t)
 
-none_after : (room : List ℕ) (d : ℕ) → drop (length room - d) (drop d room) ≡ []
+pub none_after : (room : List ℕ) (d : ℕ) → drop (length room - d) (drop d room) ≡ []
 none_after room d = drop_of_length-le (drop d room) (omega (arith, length-drop d room))
 
 -- a part of a room is filled behind d bytes that were taken
@@ -87,7 +87,7 @@ within_piece d n sofar later piece h a = omega (arith, a.1, ap length (take_rest
 -- A room in a list of bytes
 
 -- what a room holds after a fill is written over the bytes
-put_over : (i n m : ℕ) (bytes filled l : List ℕ) → i + n ≤ length bytes → m ≤ n → m ≤ length l →
+pub put_over : (i n m : ℕ) (bytes filled l : List ℕ) → i + n ≤ length bytes → m ≤ n → m ≤ length l →
     filled ≡ take m l ++ drop m (take n (drop i bytes)) →
     put_mid i n bytes filled ≡ over bytes i (take m l)
 put_over i n m bytes filled l h1 h2 h3 e =

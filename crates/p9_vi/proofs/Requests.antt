@@ -10,13 +10,13 @@ use Rattle.p9_vi.specs.declared.stop.Stepped.TheVariants.{Done, ReadFault, Write
 use Rattle.p9_vi.specs.Stops.{Told}
 use Rattle.p9_vi.specs.Steps.{Reads, PutsPiece, Calls}
 
-read_done : (at size n : ℕ) (l s : List ℕ) (request : Asked) (old new : Core) → request ≡ asks.Read at size →
+pub read_done : (at size n : ℕ) (l s : List ℕ) (request : Asked) (old new : Core) → request ≡ asks.Read at size →
     n ≡ min size (length l) → new ≡ answered (with_bytes old at (take n l)) n →
     state new (drop n l) s ≡ called request (state old l s)
 unfolding state
 read_done at size n l s request old new e0 e1 e2 = rw (e0, e2, e1) refl
 
-write_done : (at size : ℕ) (l s : List ℕ) (request : Asked) (old new : Core) → request ≡ asks.Write at size →
+pub write_done : (at size : ℕ) (l s : List ℕ) (request : Asked) (old new : Core) → request ≡ asks.Write at size →
     new ≡ answered old size → state new l (s ++ bytes_from old at size) ≡ called request (state old l s)
 unfolding state
 write_done at size l s request old new e0 e1 = rw (e0, e1) refl

@@ -57,7 +57,7 @@ step_acts c new l s i e h f k n a =
     ap (λ (c : Core). state c l s) a
     ∙ (sym (acted_other e (record { core = c; left = l; out = s }) (reads_pair i) n) ∙ sym (stepped_ok c l s i e h f k))
 
-step_calls : (r : Stepped) (c new : Core) (l s l' s' : List ℕ) (request : Asked) → IsAtCall c → request ≡ asked c →
+pub step_calls : (r : Stepped) (c new : Core) (l s l' s' : List ℕ) (request : Asked) → IsAtCall c → request ≡ asked c →
     Calls r request c new l s l' s' → Steps r c new l s l' s'
 unfolding state
 step_calls Done c new l s l' s' request at q d =
@@ -133,7 +133,7 @@ run_ended n k x q h =
     let e : k + (n - k) ≡ n = omega arith in
     rw (← e) (further k (n - k) x h)
 
-run_step : (k : ℕ) (x : State) → run (k + 1) x ≡ step (run k x)
+pub run_step : (k : ℕ) (x : State) → run (k + 1) x ≡ step (run k x)
 unfolding run
 run_step k x = let e : k + 1 ≡ suc k = omega arith in rw e refl
 

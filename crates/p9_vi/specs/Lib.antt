@@ -3,3 +3,5 @@ pub mod Run
 pub mod Stops
 pub mod Kept
 pub mod Steps
+pub mod Pieces
+pub mod Tied

@@ -1,13 +1,15 @@
 // The simulation of many instructions.
 ghost use Rattle.p9_vi.specs.Streams.{StreamsRan};
 ghost use Rattle.p9_vi.specs.Stops.{Runs, Told, StandsAt, StopCause, stop_failure};
+ghost use Rattle.p9_vi.specs.Tied.{Ties, StopCount};
 
 use crate::machine::Machine;
 use crate::stop::{Stepped, Stop};
 use p9_base::{Sink, Source};
 
 /// Runs the machine for at most `budget` instructions. After `Budget` and after a fault a later call
-/// goes on from where the machine stands.
+/// goes on from where the machine stands. Whatever the streams tell, the calls that are made on them are
+/// those of the machine's steps: it reads what takes brought, and puts write what it writes.
 pub fn simulate<I: Source, O: Sink>(
     m: &mut Machine,
     input: &mut I,
@@ -20,6 +22,8 @@ pub fn simulate<I: Source, O: Sink>(
     ensures cause { StopCause result
         (I.faults input.old) (I.faults input.new) (O.faults out.old) (O.faults out.new) }
     ensures calls { StreamsRan I.did O.did input.old out.old input.new out.new (stop_failure result) }
+    ensures tied { Ties I.did O.did input.old out.old input.new out.new
+        (stop_failure result) (StopCount result budget) m.old m.new }
 {
     let mut done = 0;
     while done < budget {

@@ -2,6 +2,7 @@
 ghost use Rattle.std.specs.Prelude.{◌≡◌, ◌<◌, ◌≤◌, ◌+◌, length, IfSome};
 ghost use Rattle.p9_vi.specs.Steps.{FillsPart, PartChanges};
 ghost use Rattle.p9_vi.specs.Streams.{Fills, FillCause, PutsAll, PutsCause, TakesRan, PutsRan, fill_failure, puts_failure};
+ghost use Rattle.p9_vi.specs.Pieces.{Brings, RoomIs, PartIs, WritesPiece};
 
 use p9_base::{Put, Sink, Source, Took};
 
@@ -11,6 +12,7 @@ pub fn fill<I: Source>(input: &mut I, room: &mut [u8]) -> Option<usize>
     ensures filled { Fills (I.left input.old) (I.left input.new) room.old room.new result }
     ensures cause { FillCause (I.faults input.old) (I.faults input.new) result }
     ensures calls { TakesRan I.did input.old input.new (fill_failure result) }
+    ensures brings { Brings I.did input.old input.new (length room.old) result (RoomIs room.old room.new) }
 {
     let mut done = 0;
     while done < room.len() {
@@ -28,6 +30,7 @@ pub fn put_all<O: Sink>(out: &mut O, piece: &[u8]) -> bool
     ensures put { PutsAll (O.sofar out.old) (O.sofar out.new) piece.now result }
     ensures cause { PutsCause (O.faults out.old) (O.faults out.new) result }
     ensures calls { PutsRan O.did out.old out.new (puts_failure result) }
+    ensures writes { WritesPiece O.did out.old out.new piece.now result }
 {
     let mut done = 0;
     while done < piece.len() {
@@ -52,6 +55,7 @@ pub fn fill_at<I: Source>(
     ensures part { PartChanges bytes.old bytes.new start count }
     ensures cause { FillCause (I.faults input.old) (I.faults input.new) result }
     ensures calls { TakesRan I.did input.old input.new (fill_failure result) }
+    ensures brings { Brings I.did input.old input.new count result (PartIs bytes.old bytes.new start) }
 {
     fill(input, &mut bytes[start..start + count])
 }

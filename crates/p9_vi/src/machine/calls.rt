@@ -1,10 +1,12 @@
 // Steps, and the system calls among them.
 ghost use Rattle.std.specs.Prelude.{◌≡◌, ◌≤◌, if◌then◌else◌, IsTrue, ◌↔◌, IfSome};
-ghost use Rattle.p9_r3k.specs.Memory.{readable, writable};
+ghost use Rattle.p9_r3k.specs.Memory.{readable, writable, bytes_from};
 ghost use Rattle.p9_r3k.specs.Machine.{answered};
 ghost use Rattle.p9_vi.specs.Streams.{FillCause, PutsCause, TakesRan, PutsRan, StreamsRan, fill_failure, puts_failure};
 ghost use Rattle.p9_vi.specs.Stops.{Told, stop_of};
 ghost use Rattle.p9_vi.specs.Steps.{FillsRoom, RoomChanges, Reads, ReadKeeps, read_failure, PutsPiece, Calls, CallKeeps, StepCause, step_failure, Steps, StepStands};
+ghost use Rattle.p9_vi.specs.Pieces.{Brings, ReadBrings, MemoryIs, WritesPiece};
+ghost use Rattle.p9_vi.specs.Tied.{AtRequest, Ties, StepCount};
 ghost use Rattle.p9_vi.specs.Kept.{CanAsk};
 
 use crate::hazards::reads_pair;
@@ -24,6 +26,7 @@ impl Machine {
         ensures within { IfSome result (λ n. n ≤ count) }
         ensures cause { FillCause (I.faults input.old) (I.faults input.new) result }
         ensures calls { TakesRan I.did input.old input.new (fill_failure result) }
+        ensures brings { Brings I.did input.old input.new count result (MemoryIs self.old self.new at) }
     {
         if at < STACK_START {
             let start = (at - TEXT_START) as usize;
@@ -41,6 +44,7 @@ impl Machine {
         ensures keeps { ReadKeeps self.old self.new at count result }
         ensures cause { PutsCause (I.faults input.old) (I.faults input.new) result }
         ensures calls { TakesRan I.did input.old input.new (read_failure result) }
+        ensures brings { ReadBrings I.did input.old input.new self.old self.new at count result }
     {
         if count == 0 {
             self.answer(0);
@@ -62,6 +66,7 @@ impl Machine {
         ensures after { self.new ≡ (if result then answered self.old count else self.old) }
         ensures cause { PutsCause (O.faults out.old) (O.faults out.new) result }
         ensures calls { PutsRan O.did out.old out.new (puts_failure result) }
+        ensures writes { WritesPiece O.did out.old out.new (bytes_from self.old at count) result }
     {
         if put_all(out, self.bytes(at, count)) {
             self.answer(count);
@@ -80,6 +85,8 @@ impl Machine {
         ensures cause { StepCause result
             (I.faults input.old) (I.faults input.new) (O.faults out.old) (O.faults out.new) }
         ensures calls { StreamsRan I.did O.did input.old out.old input.new out.new (step_failure result) }
+        ensures tied { AtRequest request self.old → Ties I.did O.did input.old out.old input.new out.new
+            (step_failure result) (StepCount result) self.old self.new }
     {
         match request {
             Asked::Exits { at, length } => {
@@ -121,6 +128,8 @@ impl Machine {
         ensures cause { StepCause result
             (I.faults input.old) (I.faults input.new) (O.faults out.old) (O.faults out.new) }
         ensures calls { StreamsRan I.did O.did input.old out.old input.new out.new (step_failure result) }
+        ensures tied { Ties I.did O.did input.old out.old input.new out.new
+            (step_failure result) (StepCount result) self.old self.new }
     {
         match self.fetch() {
             Err(cause) => {

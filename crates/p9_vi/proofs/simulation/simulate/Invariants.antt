@@ -1,6 +1,7 @@
 use Rattle.std.proofs.Common.{◌≡◌, ◌≤◌, ◌-◌, None}
 use Rattle.p9_vi.specs.Streams.{StreamsRan}
 use Rattle.p9_vi.specs.Stops.{Told}
+use Rattle.p9_vi.specs.Tied.{Ties}
 use Rattle.p9_vi.proofs.Stepping.{RunsTo}
 use Rattle.p9_vi.proofs.simulation.simulate.Given as goal
 
@@ -11,6 +12,7 @@ invariant-loop-done g l = record {
   unfailed_input : g.I.Source.faults l.input ≡ g.I.Source.faults l.fn.input;
   unfailed_out : g.O.Sink.faults l.out ≡ g.O.Sink.faults l.fn.out;
   calls : StreamsRan g.I.Source.did g.O.Sink.did l.fn.input l.fn.out l.input l.out None;
+  tied : Ties g.I.Source.did g.O.Sink.did l.fn.input l.fn.out l.input l.out None (λ n. n ≡ l.done) l.fn.m l.m;
 }
 
 abbrev pub decreases-loop-done : goal.decreases-loop-done

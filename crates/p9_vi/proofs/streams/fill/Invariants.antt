@@ -1,5 +1,6 @@
 use Rattle.std.proofs.Common.{length, ◌-◌, ◌≡◌, ◌≤◌, IfSome, None}
 use Rattle.p9_vi.specs.Streams.{HasTaken, TakesRan}
+use Rattle.p9_vi.proofs.Bringing.{Filling}
 use Rattle.p9_vi.proofs.streams.fill.Given as goal
 
 abbrev pub invariant-loop-done : goal.invariant-loop-done
@@ -8,6 +9,7 @@ invariant-loop-done g l = record {
   taken : IfSome (g.I.Source.left l.fn.input) (λ bytes. HasTaken l.done bytes (g.I.Source.left l.input) l.fn.room l.room);
   unfailed : g.I.Source.faults l.input ≡ g.I.Source.faults l.fn.input;
   calls : TakesRan g.I.Source.did l.fn.input l.input None;
+  filling : Filling g.I.Source.did l.fn.input l.input None l.done l.fn.room l.room;
 }
 
 abbrev pub decreases-loop-done : goal.decreases-loop-done

@@ -1,5 +1,6 @@
 use Rattle.std.proofs.Common.{length, ◌-◌, ◌≡◌, ◌≤◌, IfSome, Some, None, take, ◌++◌}
 use Rattle.p9_vi.specs.Streams.{PutsRan}
+use Rattle.p9_vi.proofs.Bringing.{Writing}
 use Rattle.p9_vi.proofs.streams.put_all.Given as goal
 
 abbrev pub invariant-loop-done : goal.invariant-loop-done
@@ -8,6 +9,7 @@ invariant-loop-done g l = record {
   put : IfSome (g.O.Sink.sofar l.fn.out) (λ bytes. g.O.Sink.sofar l.out ≡ Some (bytes ++ take l.done l.piece));
   unfailed : g.O.Sink.faults l.out ≡ g.O.Sink.faults l.fn.out;
   calls : PutsRan g.O.Sink.did l.fn.out l.out None;
+  writing : Writing g.O.Sink.did l.fn.out l.out None l.done l.piece;
 }
 
 abbrev pub decreases-loop-done : goal.decreases-loop-done

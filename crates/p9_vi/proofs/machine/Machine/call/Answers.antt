@@ -2,6 +2,7 @@ use Rattle.std.proofs.Common.{◌∙◌, None, Some, refl}
 use Rattle.p9_base.specs.Calls.{Input, Out}
 use Rattle.p9_vi.proofs.CallLists.{ran_takes, ran_puts}
 use Rattle.p9_vi.proofs.Requests.{read_told, read_failed, write_told, write_failed, exits_told, refused_told, stop_told}
+use Rattle.p9_vi.proofs.Tying.{ties_exits, ties_read, ties_read_failed, ties_write, ties_write_failed, ties_refused, ties_stopped}
 use Rattle.p9_vi.proofs.machine.Machine.call.Goals as goal
 
 pub returns-in-Exits-clause-changes : goal.returns-in-Exits-clause-changes
@@ -47,3 +48,31 @@ returns-in-Refused-clause-changes g c =
 pub returns-in-Stop-clause-changes : goal.returns-in-Stop-clause-changes
 returns-in-Stop-clause-changes g c =
     stop_told (g.I.Source.left c.args.input.now) (g.O.Sink.sofar c.args.out.now) c.args.request c.args.self.now c.halt.new.self c.in-Stop.cause c.in-Stop.is c.halt.ensures
+
+pub returns-in-Exits-clause-tied : goal.returns-in-Exits-clause-tied
+returns-in-Exits-clause-tied g c =
+    ties_exits g.I.Source.did g.O.Sink.did c.args.input.now c.args.out.now c.args.request c.args.self.now _ _ c.in-Exits.at c.in-Exits.length c.in-Exits.is (c.self.view_is ∙ c.advance.ensures) refl
+
+pub returns-then-read-clause-tied : goal.returns-then-read-clause-tied
+returns-then-read-clause-tied g c =
+    ties_read g.I.Source.did g.O.Sink.did c.args.input.now c.read.new.input c.args.out.now c.args.request c.args.self.now c.read.new.self c.in-Read.at c.in-Read.count c.in-Read.is c.if-read.ensures.brings
+
+pub returns-else-read-clause-tied : goal.returns-else-read-clause-tied
+returns-else-read-clause-tied g c =
+    ties_read_failed g.I.Source.did g.O.Sink.did c.args.input.now c.read.new.input c.args.out.now c.args.request c.args.self.now c.read.new.self c.in-Read.at c.in-Read.count c.in-Read.is c.if-read.ensures.brings
+
+pub returns-then-write-clause-tied : goal.returns-then-write-clause-tied
+returns-then-write-clause-tied g c =
+    ties_write g.I.Source.did g.O.Sink.did c.args.input.now c.args.out.now c.write.new.out c.args.request c.args.self.now c.write.new.self c.in-Write.at c.in-Write.count c.in-Write.is c.if-write.ensures.after c.if-write.ensures.writes
+
+pub returns-else-write-clause-tied : goal.returns-else-write-clause-tied
+returns-else-write-clause-tied g c =
+    ties_write_failed g.I.Source.did g.O.Sink.did c.args.input.now c.args.out.now c.write.new.out c.args.request c.args.self.now c.write.new.self c.in-Write.at c.in-Write.count c.in-Write.is c.if-write.ensures.after c.if-write.ensures.writes
+
+pub returns-in-Refused-clause-tied : goal.returns-in-Refused-clause-tied
+returns-in-Refused-clause-tied g c =
+    ties_refused g.I.Source.did g.O.Sink.did c.args.input.now c.args.out.now c.args.request c.args.self.now c.answer.new.self c.in-Refused.is c.answer.ensures
+
+pub returns-in-Stop-clause-tied : goal.returns-in-Stop-clause-tied
+returns-in-Stop-clause-tied g c =
+    ties_stopped g.I.Source.did g.O.Sink.did c.args.input.now c.args.out.now c.args.request c.args.self.now c.halt.new.self c.in-Stop.cause c.in-Stop.is c.halt.ensures
