@@ -1,11 +1,11 @@
 -- What the answers of `run` say of the files in the store.
-use Rattle.std.proofs.Common.{◌≡◌, ◌≢◌, ◌⊎◌, ◌↔◌, ℕ, ◌+◌, List, [], ◌∷◌, ◌++◌, map, Option, Some, None, IfSome, IsSomeAnd, Bool, true, false, Result, Ok, Err, IsOk, inl, inr, refl, sym, ap, ◌∙◌, subst, arith}
+use Rattle.std.proofs.Common.{◌≡◌, ◌≢◌, ◌⊎◌, ℕ, ◌+◌, List, [], ◌∷◌, ◌++◌, map, Option, Some, None, IsSomeAnd, true, false, Result, Ok, Err, IsOk, inl, inr, refl, sym, ap, ◌∙◌, subst, arith}
 use Rattle.p9_base.specs.Outside.{Held}
 use Rattle.p9_aout.specs.Image.{ImageParts, image_of}
 use Rattle.p9_aout.specs.declared.format.AoutFault.{AoutFault}
 use Rattle.p9_aout.specs.declared.format.AoutFault.TheVariants as fault
 use Rattle.p9_lang.specs.declared.module.Module.{Module}
-use Rattle.p9_lang.specs.Modules.{Source, IsModule, sources_of, source_from}
+use Rattle.p9_lang.specs.Modules.{Source, sources_of, source_from}
 use Rattle.p9_lang.proofs.Sources.{source_of_module}
 use Rattle.p9_cmean.specs.Turns as outcome
 use Rattle.p9_cmean.specs.CRun.{source_run, crun}
@@ -15,20 +15,20 @@ use Rattle.p9_form.specs.Spelling.{HasForm, HasNoForm}
 use Rattle.p9_names.specs.declared.table.Table.{Table}
 use Rattle.p9_names.specs.declared.table.LinkFault.{LinkFault}
 use Rattle.p9_names.specs.declared.table.LinkFault.TheVariants as links
-use Rattle.p9_names.specs.Answers.{linked, Joins, IsRefusal}
+use Rattle.p9_names.specs.Answers.{linked, Joins}
 use Rattle.p9_names.proofs.Exactness.{joined_exactly}
 use Rattle.p9_r3k.specs.Machine.{State, exit_text}
 use Rattle.p9_r3k.specs.declared.halt.Ending.{Ending}
 use Rattle.p9_r3k.specs.declared.halt.Ending.TheVariants as endings
 use Rattle.p9_share.specs.Symbols.{module_of}
 use Rattle.p9_straight.specs.Headline.{KeepsMeaning, AreDefined, IsDefined}
-use Rattle.p9_vi.specs.Run.{vrun, IsExited, HasExited, IsRunning}
+use Rattle.p9_vi.specs.Run.{IsExited, HasExited}
 use Rattle.p9_suite.specs.declared.answer.Answer.{Answer}
 use Rattle.p9_suite.specs.declared.answer.Answer.TheVariants.{Ended, Usage, Twice, NoMain, MainType, Unresolved, Disagree, Absent, ReadFault, WriteFault, StoreFault, Memory, Halted, Spent, BadMagic, ShortFile, BadSegment, NotBuilt}
 use Rattle.p9_suite.specs.Answers.{status, message}
 use Rattle.p9_suite.specs.Commands.{default_budget}
-use Rattle.p9_suite.specs.RunCommand.{IsProgram, HaveFault, output_name}
-use Rattle.p9_suite.specs.RunContent.{AreFiles, IsFirst, IsAbsent, IsFormless, HasRun, HasFault, RunTells, AreRefused, FilesSay, KeepsModules, AreModules, IsRun}
+use Rattle.p9_suite.specs.RunCommand.{output_name}
+use Rattle.p9_suite.specs.RunContent.{AreFiles, IsFirst, IsAbsent, IsFormless, HasRun, RunTells, AreRefused, FilesSay, KeepsModules, AreModules, IsRun}
 use Rattle.p9_suite.specs.ViCommand.{IsRunOf, Outcome, ViTells, answer_at, refusal}
 use Rattle.p9_suite.proofs.Contents.{ended_not}
 use Rattle.p9_suite.proofs.Exited.{exits_once, exited_stays}

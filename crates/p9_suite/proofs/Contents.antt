@@ -1,7 +1,7 @@
 -- What the calls of `run` say of the store's content.
-use Rattle.std.proofs.Common.{◌≡◌, ◌≢◌, ◌⊎◌, ℕ, List, [], ◌∷◌, ◌++◌, map, Option, Some, None, IfSome, IsSomeAnd, Result, Ok, Err, inl, inr, refl, sym, ap, ◌∙◌, subst}
-use Rattle.p9_base.specs.Outside.{Held, Rose, Answers, OthersAsBefore, Writes, TakeCall, PutCall, FileCall, ReadCall, FileMeans}
-use Rattle.p9_base.specs.Calls.{StreamCall, Call, OnStream, OnFiles, Objects, Doing, Did}
+use Rattle.std.proofs.Common.{◌≡◌, ℕ, List, [], ◌∷◌, ◌++◌, map, Option, Some, None, IfSome, IsSomeAnd, Result, Ok, Err, inl, inr, refl, sym, ap, ◌∙◌, subst}
+use Rattle.p9_base.specs.Outside.{Held, Answers, OthersAsBefore, Writes, TakeCall, PutCall, FileCall, ReadCall, FileMeans}
+use Rattle.p9_base.specs.Calls.{StreamCall, Call, OnStream, OnFiles, Objects, Did}
 use Rattle.p9_base.specs.declared.outside.Got.{Got}
 use Rattle.p9_base.specs.declared.outside.Got.TheVariants as got
 use Rattle.p9_base.specs.declared.outside.FileFault.{FileFault}
@@ -14,10 +14,10 @@ use Rattle.p9_names.specs.declared.table.LinkFault.TheVariants as links
 use Rattle.p9_suite.specs.declared.answer.Answer.{Answer}
 use Rattle.p9_suite.specs.declared.answer.Answer.TheVariants.{Ended, Usage, Twice, NoMain, MainType, Unresolved, Disagree, Absent, ReadFault, WriteFault, StoreFault, Memory, Halted, Spent, BadMagic, ShortFile, BadSegment, NotBuilt}
 use Rattle.p9_suite.specs.Answers.{status}
-use Rattle.p9_suite.specs.RunCommand.{ReadAll, StopsAt, StopsIn, IsProgram, HaveFault, IsUnbuilt, output_name, wrote, WritesAndSimulates, WriteCalls, BuildCalls, RunCalls, RunDoes}
+use Rattle.p9_suite.specs.RunCommand.{ReadAll, StopsAt, StopsIn, IsProgram, HaveFault, IsUnbuilt, output_name, wrote, WritesAndSimulates, WriteCalls, BuildCalls, RunDoes}
 use Rattle.p9_suite.specs.RunContent.{AreFiles, IsFirst, IsAbsent, IsFormless, TellsRun, HasRun, HasFault, RunTells}
 use Rattle.p9_suite.specs.ViCommand.{read_file}
-use Rattle.p9_suite.specs.Suite.{doing, objects, IsRefused}
+use Rattle.p9_suite.specs.Suite.{doing, IsRefused}
 
 -- what calls on a store mean
 abbrev pub Means : {F : Type 0} → (F → Option Held) → (F → ℕ) → (F → FileCall → F → Type 0) → Type 0

@@ -1,28 +1,25 @@
 -- How the answers of `run` come.
-use Rattle.std.proofs.Common.{◌≡◌, ℕ, ◌+◌, ◌-◌, ◌≤◌, ◌<◌, zero, suc, List, [], ◌∷◌, ◌++◌, All, length, take, drop, get_or, map, Option, Some, None, Result, Ok, Err, ◌⊎◌, inl, inr, refl, sym, ◌∙◌, ap, subst, append_assoc, append-nil, arith}
+use Rattle.std.proofs.Common.{◌≡◌, ℕ, ◌-◌, ◌≤◌, ◌<◌, suc, List, [], ◌∷◌, ◌++◌, All, length, take, drop, get_or, map, Option, Some, Result, Ok, Err, inl, inr, refl, sym, ◌∙◌, ap, subst, append_assoc, append-nil, arith}
 use Rattle.std.proofs.lemmas.List.Elements.{All-cons, All-nil, All-append}
 use Rattle.std.proofs.Math.Seq.{take-length}
 use Rattle.p9_base.specs.Outside.{TakeCall, PutCall, FileCall, ReadCall, WriteCall}
 use Rattle.p9_base.specs.declared.outside.Got.TheVariants as got
 use Rattle.p9_base.specs.declared.outside.FileFault.TheVariants as fault
-use Rattle.p9_base.specs.Calls.{StreamCall, Call, OnStream, OnFiles, Objects, Doing, Did}
+use Rattle.p9_base.specs.Calls.{StreamCall, OnStream, OnFiles, Objects, Doing, Did}
 use Rattle.p9_base.proofs.CallLemmas.{objects_of, Did-append, Did-streams}
 use Rattle.p9_aout.specs.Image.{ImageParts, image_of}
 use Rattle.p9_lang.specs.Form.{IsFile}
 use Rattle.p9_form.specs.declared.file.File.{File}
-use Rattle.p9_form.specs.Items.{items_of, source_of}
-use Rattle.p9_form.specs.Spelling.{HasForm, HasNoForm}
+use Rattle.p9_form.specs.Items.{items_of}
+use Rattle.p9_form.specs.Spelling.{HasNoForm}
 use Rattle.p9_form.specs.Sharing.{IsSmall}
 use Rattle.p9_names.specs.declared.table.LinkFault.{LinkFault}
 use Rattle.p9_names.specs.declared.table.LinkFault.TheVariants as links
-use Rattle.p9_names.specs.Answers.{linked, Joins}
-use Rattle.p9_share.specs.Symbols.{module_of}
-use Rattle.p9_straight.specs.Headline.{KeepsMeaning, EndsInTime}
 use Rattle.p9_suite.specs.declared.answer.Answer.{Answer}
 use Rattle.p9_suite.specs.declared.answer.Answer.TheVariants.{Ended, Usage, Twice, NoMain, MainType, Unresolved, Disagree, Absent, ReadFault, WriteFault, StoreFault, Memory, Halted, Spent, BadMagic, ShortFile, BadSegment, NotBuilt}
 use Rattle.p9_suite.specs.Commands.{default_budget}
 use Rattle.p9_suite.specs.Suite.{doing, objects}
-use Rattle.p9_suite.specs.RunCommand.{ReadAll, StopsAt, StopsIn, IsProgram, HaveFault, IsUnbuilt, fault_answer, output_name, wrote, WriteCalls, BuildCalls, RunDoes, BuildDoes, WriteDoes, StoreDid, StoreReads, StoreReadsOne, StoreStopsAt, StoreStops}
+use Rattle.p9_suite.specs.RunCommand.{ReadAll, IsProgram, HaveFault, IsUnbuilt, fault_answer, output_name, wrote, WriteCalls, RunDoes, BuildDoes, WriteDoes, StoreDid, StoreReads, StoreReadsOne, StoreStopsAt, StoreStops}
 use Rattle.p9_suite.specs.ViCommand.{read_file, IsExecutable, FileCalls, FileDoes, ViTells}
 use Rattle.p9_vi.specs.Stops.{Told}
 

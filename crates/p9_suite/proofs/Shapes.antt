@@ -1,7 +1,7 @@
 -- The tokens of a file say which file it is.
-use Rattle.std.proofs.Common.{◌≡◌, ◌≤◌, ◌⊎◌, ℕ, suc, ◌+◌, Bool, true, false, List, [], ◌∷◌, ◌++◌, map, Option, Some, None, codes, inl, inr, refl, sym, ap, ◌∙◌, subst, append_assoc, append-nil, arith}
+use Rattle.std.proofs.Common.{◌≡◌, ◌⊎◌, ℕ, suc, ◌+◌, Bool, true, false, List, [], ◌∷◌, ◌++◌, map, Option, Some, None, codes, inl, inr, refl, sym, ap, ◌∙◌, subst, append_assoc, arith}
 use Rattle.std.proofs.lemmas.List.{map-append}
-use Rattle.p9_lang.specs.Tokens.{Token, Word, Number, Character, Text, Mark, End, tokens, tokens_from, file_tokens}
+use Rattle.p9_lang.specs.Tokens.{Token, Word, Number, Text, Mark, End, tokens, tokens_from, file_tokens}
 use Rattle.p9_lang.specs.Trees.{SyntaxRow, more, none}
 use Rattle.p9_lang.specs.Form.{IsFile}
 use Rattle.p9_lang.specs.declared.tree.Kind.TheVariants as kind
@@ -15,9 +15,8 @@ use Rattle.p9_form.specs.declared.file.Declaration.{Declaration}
 use Rattle.p9_form.specs.declared.file.File.{File}
 use Rattle.p9_form.specs.Items.{statement_tree, statement_size, statement_trees, declaration_tree, declaration_size, declaration_trees, declarations_size, main_tree, main_size, main_trees, items_of}
 use Rattle.p9_form.specs.Scanning.{AreFormTokens}
-use Rattle.p9_form.specs.Sharing.{statements}
 use Rattle.p9_form.proofs.Formed.{FitStatements, FitsFirst, FitDeclarations, FitsMain, FitsFile, file_fits}
-use Rattle.p9_share.specs.Symbols.{module_of, variable_symbol, used_names, main_symbols, system_symbols, symbols_of}
+use Rattle.p9_share.specs.Symbols.{module_of, variable_symbol}
 
 -- The tokens of each part
 

@@ -1,5 +1,5 @@
 -- What the suite's answers say of its words, its store and its status.
-use Rattle.std.proofs.Common.{◌≡◌, ◌≢◌, ◌≤◌, ◌⊎◌, ℕ, List, [], ◌∷◌, map, length, Bool, true, false, nat_le, if◌then◌else◌, ◌&&◌, codes, Option, Some, None, IfSome, IsSomeAnd, Result, Ok, Err, inl, inr, refl, sym, ap, ◌∙◌, subst, arith}
+use Rattle.std.proofs.Common.{◌≡◌, ◌≢◌, ◌≤◌, ℕ, List, [], ◌∷◌, map, length, Bool, true, false, nat_le, if◌then◌else◌, ◌&&◌, codes, Option, Some, None, IfSome, IsSomeAnd, inl, inr, refl, sym, ap, ◌∙◌, subst, arith}
 use Rattle.std.proofs.lemmas.Bool.Decides.{nat_tests}
 use Rattle.std.specs.List.{list_all}
 use Rattle.std.specs.Str.{bytes_eq}
@@ -8,7 +8,6 @@ use Rattle.p9_base.specs.Calls.{StreamCall, Call, OnStream, OnFiles, Objects, Do
 use Rattle.p9_base.proofs.CallLemmas.{take_counts, put_counts, file_counts, counts_say}
 use Rattle.p9_base.specs.declared.outside.Got.{Got}
 use Rattle.p9_base.specs.declared.outside.Got.TheVariants as got
-use Rattle.p9_form.specs.declared.file.File.{File}
 use Rattle.p9_names.specs.Answers.{linked, Joins}
 use Rattle.p9_share.specs.Symbols.{module_of}
 use Rattle.p9_suite.specs.declared.answer.Answer.{Answer}

@@ -19,7 +19,7 @@ use Rattle.p9_vi.specs.Stops.{Told}
 use Rattle.p9_suite.specs.declared.answer.Answer.{Answer}
 use Rattle.p9_suite.specs.declared.answer.Answer.TheVariants.{Ended, Usage, Twice, NoMain, MainType, Unresolved, Disagree, Absent, ReadFault, WriteFault, StoreFault, Memory, Halted, Spent, BadMagic, ShortFile, BadSegment, NotBuilt}
 use Rattle.p9_suite.specs.Answers.{status, message}
-use Rattle.p9_suite.specs.Commands.{Command, Run, command_of, default_budget}
+use Rattle.p9_suite.specs.Commands.{Run, command_of, default_budget}
 use Rattle.p9_suite.specs.RunCommand.{IsProgram, HaveFault, output_name}
 use Rattle.p9_suite.specs.ViCommand.{IsRunOf, ViTells}
 
