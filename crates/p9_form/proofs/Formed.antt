@@ -1,5 +1,5 @@
 -- What holds of a file whose tree has the form: its names, its numbers and its texts.
-use Rattle.std.proofs.Common.{◌≡◌, ◌≤◌, ℕ, zero, suc, ◌+◌, Bool, true, false, not, ◌&&◌, IsTrue, List, [], ◌∷◌, ◌++◌, map, flat_map, Option, Some, None, All, refl, sym, ap, ◌∙◌, subst, arith}
+use Rattle.std.proofs.Common.{◌≤◌, ℕ, ◌+◌, Bool, true, false, not, ◌&&◌, IsTrue, List, [], ◌∷◌, Option, Some, None}
 use Rattle.std.specs.List.{list_all}
 use Rattle.p9_lang.specs.Trees.{SyntaxRow, more, none}
 use Rattle.p9_lang.specs.Form.{is_among, is_variable_name, is_text_byte, IsOperand, IsSum, IsStatement, AreStatements, AreDeclarations, AreItems, IsFile}
@@ -11,7 +11,7 @@ use Rattle.p9_form.specs.declared.file.First.{First}
 use Rattle.p9_form.specs.declared.file.First.TheVariants as first
 use Rattle.p9_form.specs.declared.file.Declaration.{Declaration}
 use Rattle.p9_form.specs.declared.file.File.{File}
-use Rattle.p9_form.specs.Items.{operand_tree, sum_tree, statement_tree, statement_size, statement_trees, declaration_tree, declaration_size, declaration_trees, declarations_size, main_tree, main_size, main_trees, items_of}
+use Rattle.p9_form.specs.Items.{operand_tree, sum_tree, statement_tree, statement_size, statement_trees, declaration_tree, declaration_size, declaration_trees, declarations_size, main_size, main_trees, items_of}
 
 -- Statements
 

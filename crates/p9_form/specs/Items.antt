@@ -1,5 +1,5 @@
 -- The tree of a file of the form. Each node knows the place of its first token.
-use Rattle.std.specs.Prelude.{ℕ, ◌+◌, Bool, true, false, if◌then◌else◌, List, [], ◌∷◌, ◌++◌, Option, Some, None, codes}
+use Rattle.std.specs.Prelude.{ℕ, ◌+◌, Bool, true, false, if◌then◌else◌, List, [], ◌∷◌, Option, Some, None, codes}
 use Rattle.p9_lang.specs.declared.tree.CBinary.TheVariants as operator
 use Rattle.p9_lang.specs.declared.tree.SpecWord.{SpecWord}
 use Rattle.p9_lang.specs.declared.tree.SpecWord.TheVariants as word

@@ -1,6 +1,6 @@
 -- How a file of the form is spelled: the bytes of its tokens, which spaces, tabs and newlines may
 -- stand between.
-use Rattle.std.specs.Prelude.{◌≡◌, ◌≤◌, ℕ, ◌+◌, Bool, true, false, not, ◌&&◌, ◌||◌, ◌==◌, if◌then◌else◌, IsTrue, List, [], ◌∷◌, ◌++◌, length, flat_map, All, decimal}
+use Rattle.std.specs.Prelude.{◌≡◌, ◌≤◌, ℕ, Bool, false, ◌&&◌, ◌||◌, ◌==◌, if◌then◌else◌, IsTrue, List, [], ◌∷◌, ◌++◌, length, flat_map, All, decimal}
 use Rattle.std.specs.List.{list_all}
 use Rattle.p9_lang.specs.Trees.{SyntaxRow}
 use Rattle.p9_lang.specs.Tokens.{Token, Word, Number, Character, Text, Mark, End, file_tokens}
