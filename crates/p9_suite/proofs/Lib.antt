@@ -1,5 +1,6 @@
 pub mod Puts
 pub mod ViLemmas
+pub mod ShownLemmas
 pub mod RunLemmas
 pub mod Ordered
 pub mod Contents
