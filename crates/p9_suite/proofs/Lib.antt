@@ -8,4 +8,5 @@ pub mod Exited
 pub mod Shapes
 pub mod Once
 pub mod Causes
+pub mod RunShown
 pub mod SuiteLemmas
