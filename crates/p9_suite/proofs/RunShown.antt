@@ -1,5 +1,5 @@
 -- How the calls of `run` show its files' meaning.
-use Rattle.std.proofs.Common.{◌≡◌, ◌⊎◌, inl, inr, ℕ, ◌+◌, List, [], ◌∷◌, ◌++◌, map, Option, Some, Result, Ok, refl, sym, ◌∙◌, ap, subst}
+use Rattle.std.proofs.Common.{◌≡◌, inl, inr, ℕ, ◌+◌, List, [], ◌∷◌, ◌++◌, map, Option, Ok, refl, ◌∙◌, ap, subst}
 use Rattle.p9_base.specs.Outside.{TakeCall, PutCall, FileCall}
 use Rattle.p9_base.specs.Calls.{StreamCall, Call, OnStream, OnFiles, Objects, Doing, Did}
 use Rattle.p9_r3k.specs.Machine.{state}
@@ -9,9 +9,9 @@ use Rattle.p9_vi.specs.Tied.{IsSteady, brought_in, written_in}
 use Rattle.p9_suite.specs.declared.answer.Answer.{Answer}
 use Rattle.p9_suite.specs.declared.answer.Answer.TheVariants.{Ended, Usage, Twice, NoMain, MainType, Unresolved, Disagree, Absent, ReadFault, WriteFault, StoreFault, Memory, Halted, Spent, BadMagic, ShortFile, BadSegment, NotBuilt}
 use Rattle.p9_suite.specs.Answers.{status, message}
-use Rattle.p9_suite.specs.Commands.{Command, Run, command_of, default_budget}
+use Rattle.p9_suite.specs.Commands.{Command, command_of, default_budget}
 use Rattle.p9_suite.specs.RunCommand.{ReadAll, StopsAt, StopsIn, IsProgram, IsUnbuilt, wrote, WriteCalls, BuildCalls, RunDoes}
-use Rattle.p9_suite.specs.Shown.{IsWholeRun, IsShown, Shown}
+use Rattle.p9_suite.specs.Shown.{IsWholeRun, IsShown, RanShown, Shown}
 use Rattle.p9_suite.specs.Suite.{CommandMakes, doing, objects}
 use Rattle.p9_suite.specs.ViCommand.{IsRunOf, IsRunBy}
 use Rattle.p9_suite.proofs.Causes.{HasEnded, has_ended, source_ends, keeps_modules, modules_run}
@@ -130,14 +130,8 @@ simulated bytes (NotBuilt word) calls h w = absurd w
 
 -- Of the whole command
 
-abbrev Ran : {I O F : Type 0} → Doing I O F → (old new : Objects I O F) → (names : List (List ℕ)) → (s : ℕ) → (Line : List ℕ → Type 0) → Type 0
-Ran doing old new names s Line =
-    (files : List File) × (reads : List FileCall) × (bytes : List ℕ) × (behind : List StreamCall)
-    × Did doing old (map OnFiles reads ++ OnFiles (wrote bytes (Ok tt)) ∷ map OnStream behind) new
-    × ReadAll names files reads × IsShown files bytes behind s Line
-
 build_shown : {I O F : Type 0} (doing : Doing I O F) (old new : Objects I O F) (Tells : List ℕ → Answer → Type 0) (names : List (List ℕ)) (files : List File) (reads : List FileCall) (calls : List Call) (a : Answer) (s : ℕ) (Line : List ℕ → Type 0) →
-    IsWholeRun (status a) → s ≡ status a → Line (message a) → ReadAll names files reads → Did doing old (map OnFiles reads ++ calls) new → BuildCalls Tells files a calls → Ran doing old new names s Line
+    IsWholeRun (status a) → s ≡ status a → Line (message a) → ReadAll names files reads → Did doing old (map OnFiles reads ++ calls) new → BuildCalls Tells files a calls → RanShown doing old new names s Line
 build_shown doing old new Tells names files reads calls a s Line h e line all did (inl u) = absurd (unbuilt_not files a h u.0)
 build_shown doing old new Tells names files reads calls a s Line h e line all did (inr b) =
     let w : Simulated b.0 a calls = simulated b.0 a calls h b.2 in (
@@ -151,7 +145,7 @@ build_shown doing old new Tells names files reads calls a s Line h e line all di
     )
 
 ran_shown : {I O F : Type 0} (doing : Doing I O F) (old new : Objects I O F) (Tells : List ℕ → Answer → Type 0) (names : List (List ℕ)) (a : Answer) (s : ℕ) (Line : List ℕ → Type 0) →
-    IsWholeRun (status a) → s ≡ status a → Line (message a) → RunDoes doing old new Tells names a → Ran doing old new names s Line
+    IsWholeRun (status a) → s ≡ status a → Line (message a) → RunDoes doing old new Tells names a → RanShown doing old new names s Line
 ran_shown doing old new Tells names a s Line h e line (calls, d, inl r) = absurd (stops_not names a r.0 h r.2)
 ran_shown doing old new Tells names a s Line h e line (calls, d, inr r) =
     build_shown doing old new Tells names r.0 r.1 r.2 a s Line h e line r.4 (subst (λ (x : List Call). Did doing old x new) r.3 d) r.5

@@ -1,5 +1,5 @@
 -- How the calls of a simulation show the run of the file's bytes.
-use Rattle.std.proofs.Common.{◌≡◌, ◌≤◌, ◌<◌, ◌⊎◌, inl, inr, ℕ, ◌+◌, ◌-◌, List, [], ◌++◌, Option, Some, None, Result, Ok, refl, sym, ◌∙◌, ap, subst, append-nil, arith}
+use Rattle.std.proofs.Common.{◌≡◌, ◌≤◌, ◌<◌, ◌⊎◌, inl, inr, ℕ, ◌+◌, ◌-◌, List, [], ◌++◌, Some, None, Ok, refl, sym, ◌∙◌, ap, subst, append-nil, arith}
 use Rattle.p9_base.specs.Outside.{TakeCall, PutCall}
 use Rattle.p9_base.specs.Calls.{StreamCall, StreamsDid, StreamsFine, StreamsEnd, Failing, Input, Out}
 use Rattle.p9_aout.specs.Image.{ImageParts, image_of}
@@ -16,7 +16,6 @@ use Rattle.p9_vi.specs.declared.stop.Stop.{Stop}
 use Rattle.p9_vi.specs.declared.stop.Stop.TheVariants as stops
 use Rattle.p9_vi.proofs.Whole.{goes_whole}
 use Rattle.p9_suite.specs.declared.answer.Answer.{Answer}
-use Rattle.p9_suite.specs.declared.answer.Answer.TheVariants.{Ended, Halted, Spent}
 use Rattle.p9_suite.specs.ViCommand.{FileDoes, IsRunBy, IsRunTo, answer_at, stop_answer}
 use Rattle.p9_suite.proofs.ViLemmas.{vrun_is}
 

@@ -39,9 +39,13 @@ pub record IsShown (files : List File) (bytes : List ℕ) (behind : List StreamC
       × (written_in behind ≡ output) × (s ≡ status (Ended text)) × Line (message (Ended text))
 
 -- Each file was read, the executable was written, and then all takes and puts are those of its run.
-abbrev pub Shown : {I O F : Type 0} → Doing I O F → (old new : Objects I O F) → (words : List (List ℕ)) → (s : ℕ) → (Line : List ℕ → Type 0) → Type 0
-Shown doing old new words s Line =
-    (names : List (List ℕ)) → command_of words ≡ Some (Run names) → IsWholeRun s →
+abbrev pub RanShown : {I O F : Type 0} → Doing I O F → (old new : Objects I O F) → (names : List (List ℕ)) → (s : ℕ) → (Line : List ℕ → Type 0) → Type 0
+RanShown doing old new names s Line =
     (files : List File) × (reads : List FileCall) × (bytes : List ℕ) × (behind : List StreamCall)
     × Did doing old (map OnFiles reads ++ OnFiles (wrote bytes (Ok tt)) ∷ map OnStream behind) new
     × ReadAll names files reads × IsShown files bytes behind s Line
+
+-- so it is with `run`, where its run has ended, has halted or has spent its budget
+abbrev pub Shown : {I O F : Type 0} → Doing I O F → (old new : Objects I O F) → (words : List (List ℕ)) → (s : ℕ) → (Line : List ℕ → Type 0) → Type 0
+Shown doing old new words s Line =
+    (names : List (List ℕ)) → command_of words ≡ Some (Run names) → IsWholeRun s → RanShown doing old new names s Line
