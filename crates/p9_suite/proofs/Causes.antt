@@ -271,11 +271,11 @@ exited_answer budget s endings.Running x = absurd x
 exited_answer budget s (endings.Exited at n) x = refl
 exited_answer budget s (endings.Halted cause pc) x = absurd x
 
-record HasEnded (answer : Answer) (o o' output text : List ℕ) : Type 0 where
+pub record HasEnded (answer : Answer) (o o' output text : List ℕ) : Type 0 where
   pub answers : answer ≡ Ended text
   pub puts : o' ≡ o ++ output
 
-has_ended : (bytes l o l' o' output text : List ℕ) (a : Answer) → IsRunOf bytes default_budget l o l' o' a → HasExited bytes l default_budget output text → HasEnded a o o' output text
+pub has_ended : (bytes l o l' o' output text : List ℕ) (a : Answer) → IsRunOf bytes default_budget l o l' o' a → HasExited bytes l default_budget output text → HasEnded a o o' output text
 has_ended bytes l o l' o' output text a r x =
     let all : IsExited r.end.core.ending × (exit_text r.end.core ≡ text) × (r.end.out ≡ output) = subst (λ (s : Option State). IsSomeAnd s (λ t. IsExited t.core.ending × (exit_text t.core ≡ text) × (t.out ≡ output))) r.runs x in
     record {
@@ -295,7 +295,7 @@ ended_by sources bytes l output text (outcome.Out o) k x e d =
 ended_by sources bytes l output text (outcome.Undefined o why place) k x e d = absurd d
 ended_by sources bytes l output text (outcome.Deep o place) k x e d = absurd d
 
-source_ends : (sources : List Source) (bytes l output text : List ℕ) → KeepsMeaning sources bytes → AreDefined sources l → HasExited bytes l default_budget output text → source_run sources l (default_budget + 1) ≡ outcome.Ended output text
+pub source_ends : (sources : List Source) (bytes l output text : List ℕ) → KeepsMeaning sources bytes → AreDefined sources l → HasExited bytes l default_budget output text → source_run sources l (default_budget + 1) ≡ outcome.Ended output text
 source_ends sources bytes l output text k d x =
     ended_by sources bytes l output text (source_run sources l (default_budget + 1)) k x refl (d (default_budget + 1))
 
@@ -310,14 +310,14 @@ modules_sources (m ∷ ms) (file ∷ files) a =
     let rest : sources_of ms ≡ map source_of files = modules_sources ms files a.2 in
     λ i. first i ∷ rest i
 
-keeps_modules : (modules : List Module) (files : List File) (bytes : List ℕ) → AreModules modules files → KeepsMeaning (map source_of files) bytes → KeepsModules modules bytes
+pub keeps_modules : (modules : List Module) (files : List File) (bytes : List ℕ) → AreModules modules files → KeepsMeaning (map source_of files) bytes → KeepsModules modules bytes
 unfolding crun
 keeps_modules modules files bytes a k = record {
   ended = λ input turns output text c. k.ended input turns output text (ap (λ (x : List Source). source_run x input turns) (sym (modules_sources modules files a)) ∙ c);
   goes_on = λ input turns output c. k.goes_on input turns output (ap (λ (x : List Source). source_run x input turns) (sym (modules_sources modules files a)) ∙ c);
 }
 
-modules_run : (modules : List Module) (files : List File) (input : List ℕ) (turns : ℕ) → AreModules modules files → crun modules input turns ≡ source_run (map source_of files) input turns
+pub modules_run : (modules : List Module) (files : List File) (input : List ℕ) (turns : ℕ) → AreModules modules files → crun modules input turns ≡ source_run (map source_of files) input turns
 unfolding crun
 modules_run modules files input turns a = ap (λ (x : List Source). source_run x input turns) (modules_sources modules files a)
 

@@ -1,5 +1,6 @@
 pub mod Puts
 pub mod ViLemmas
+pub mod ShownLemmas
 pub mod RunLemmas
 pub mod Ordered
 pub mod Contents
@@ -7,4 +8,5 @@ pub mod Exited
 pub mod Shapes
 pub mod Once
 pub mod Causes
+pub mod RunShown
 pub mod SuiteLemmas

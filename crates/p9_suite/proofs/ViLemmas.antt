@@ -2,7 +2,7 @@
 use Rattle.std.proofs.Common.{◌≡◌, ℕ, zero, suc, List, [], ◌∷◌, ◌++◌, map, append_assoc, append-nil, Option, Some, None, option_map, IfSome, Bool, Result, Ok, Err, ◌⊎◌, inl, inr, refl, sym, ◌∙◌, ap, subst}
 use Rattle.p9_base.specs.Outside.{Held, Answers, TakeCall, PutCall, FileCall, ReadCall}
 use Rattle.p9_base.specs.declared.outside.Got.TheVariants as got
-use Rattle.p9_base.specs.Calls.{StreamCall, StreamsEnd, OnFiles, OnStream}
+use Rattle.p9_base.specs.Calls.{StreamCall, OnFiles, OnStream}
 use Rattle.p9_base.proofs.CallLemmas.{Did-streams}
 use Rattle.p9_aout.specs.Image.{ImageParts, image_of}
 use Rattle.p9_aout.specs.declared.format.AoutFault.{AoutFault}
@@ -19,8 +19,7 @@ use Rattle.p9_r3k.specs.declared.halt.Asked.TheVariants as asks
 use Rattle.p9_r3k.specs.Effects.{effect_of, reads_pair}
 use Rattle.p9_r3k.specs.Machine.{State, state, asked, fetched, called, acted, executed, going, step, run}
 use Rattle.p9_vi.specs.Run.{vrun, start_of, started}
-use Rattle.p9_vi.specs.Stops.{Runs, RunsWhole, Told, stop_of, stop_failure}
-use Rattle.p9_vi.specs.Streams.{StreamsRan}
+use Rattle.p9_vi.specs.Stops.{Runs, RunsWhole, Told, stop_of}
 use Rattle.p9_vi.specs.declared.stop.Stop.{Stop}
 use Rattle.p9_vi.specs.declared.stop.Stop.TheVariants as stops
 use Rattle.p9_suite.specs.declared.answer.Answer.{Answer}
@@ -73,7 +72,7 @@ run_behind (suc n) o s = ap step (run_behind n o s) ∙ step_behind o (run n s)
 
 -- The run of an image
 
-vrun_is : (file : List ℕ) (parts : ImageParts) (l : List ℕ) (n : ℕ) → image_of file ≡ Ok parts → vrun file l n ≡ Some (run n (start_of parts l))
+pub vrun_is : (file : List ℕ) (parts : ImageParts) (l : List ℕ) (n : ℕ) → image_of file ≡ Ok parts → vrun file l n ≡ Some (run n (start_of parts l))
 unfolding vrun
 vrun_is file parts l n e = ap (λ p. option_map (run n) (started p l)) e
 
@@ -119,19 +118,6 @@ simulated_tells name file budget parts stop old new answer left later out now e 
     let t = told l o hl ho in
     let r : Runs stop budget (start_of parts []).core new l o t.0 t.1 = subst (λ (c : Core). Runs stop budget c new l o t.0 t.1) s t.4 in
     (t.0, t.1, t.2, t.3, subst (λ (x : Answer). ViTells name budget x (Some file) l o t.0 t.1) (sym a) (stop_tells name file budget parts stop new l o t.0 t.1 e r))
-
--- Of a file that is simulated
-
-stop_calls : (name file : List ℕ) (budget : ℕ) (parts : ImageParts) (stop : Stop) (new : Core) (calls : List StreamCall) → image_of file ≡ Ok parts → StreamsEnd calls (stop_failure stop) → FileCalls name file budget (stop_answer budget new stop) calls
-stop_calls name file budget parts stops.Exit new calls e d = ((parts, e), d)
-stop_calls name file budget parts stops.Budget new calls e d = (refl, (parts, e), d)
-stop_calls name file budget parts (stops.Halt cause pc) new calls e d = ((parts, e), d)
-stop_calls name file budget parts stops.ReadFault new calls e d = ((parts, e), d)
-stop_calls name file budget parts stops.WriteFault new calls e d = ((parts, e), d)
-
-pub simulated_does : {I O : Type 0} (takes : I → TakeCall → I → Type 0) (puts : O → PutCall → O → Type 0) (i : I) (o : O) (j : I) (p : O) (name file : List ℕ) (budget : ℕ) (parts : ImageParts) (stop : Stop) (new : Core) (answer : Answer) → image_of file ≡ Ok parts → answer ≡ stop_answer budget new stop → StreamsRan takes puts i o j p (stop_failure stop) → FileDoes takes puts i o j p name file budget answer
-simulated_does takes puts i o j p name file budget parts stop new answer e a r =
-    (r.calls, r.did, subst (λ (x : Answer). FileCalls name file budget x r.calls) (sym a) (stop_calls name file budget parts stop new r.calls e r.ends))
 
 -- Of a file that is refused, and of want of memory before the simulation
 

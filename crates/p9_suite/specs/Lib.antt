@@ -5,3 +5,4 @@ pub mod ViCommand
 pub mod RunCommand
 pub mod RunContent
 pub mod Suite
+pub mod Shown

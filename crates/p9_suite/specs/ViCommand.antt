@@ -1,17 +1,18 @@
 -- What the command `vi` does: the calls that it makes in order, and its answer.
-use Rattle.std.specs.Prelude.{◌≡◌, ℕ, List, [], ◌∷◌, ◌++◌, map, Option, Some, None, Result, Ok, Err, ◌⊎◌}
+use Rattle.std.specs.Prelude.{◌≡◌, ◌<◌, ◌≤◌, ℕ, List, [], ◌∷◌, ◌++◌, map, Option, Some, None, Result, Ok, Err, ◌⊎◌}
 use Rattle.p9_base.specs.Outside.{TakeCall, PutCall, FileCall, ReadCall}
 use Rattle.p9_base.specs.declared.outside.Got.TheVariants as got
-use Rattle.p9_base.specs.Calls.{StreamCall, StreamsDid, StreamsFine, StreamsEnd, Input, Out, Call, OnStream, OnFiles, Objects, Doing, Did}
+use Rattle.p9_base.specs.Calls.{StreamCall, StreamsDid, StreamsFine, StreamsEnd, Failing, Input, Out, Call, OnStream, OnFiles, Objects, Doing, Did}
 use Rattle.p9_aout.specs.Image.{ImageParts, image_of}
 use Rattle.p9_aout.specs.declared.format.AoutFault.{AoutFault}
 use Rattle.p9_aout.specs.declared.format.AoutFault.TheVariants as fault
 use Rattle.p9_r3k.specs.Memory.{Core}
-use Rattle.p9_r3k.specs.Machine.{State, exit_text}
+use Rattle.p9_r3k.specs.Machine.{State, state, exit_text}
 use Rattle.p9_r3k.specs.declared.halt.Ending.{Ending}
 use Rattle.p9_r3k.specs.declared.halt.Ending.TheVariants as endings
 use Rattle.p9_vi.specs.Run.{vrun, start_of}
 use Rattle.p9_vi.specs.Stops.{RunsToRead, RunsToWrite}
+use Rattle.p9_vi.specs.Tied.{Stretch, calls_of, steps_of, Goes, Fails, IsSteady, brought_in, written_in}
 use Rattle.p9_vi.specs.declared.stop.Stop.{Stop}
 use Rattle.p9_vi.specs.declared.stop.Stop.TheVariants as stops
 use Rattle.p9_suite.specs.declared.answer.Answer.{Answer}
@@ -31,10 +32,50 @@ IsExecutable file = (parts : ImageParts) × (image_of file ≡ Ok parts)
 abbrev pub IsRefused : (file : List ℕ) → AoutFault → List StreamCall → Type 0
 IsRefused file why calls = (image_of file ≡ Err why) × (calls ≡ [])
 
+-- The run that the calls show
+
+-- the answer to a run that has come to such an end
+abbrev pub answer_at : (budget : ℕ) → Core → Ending → Answer
+answer_at budget core endings.Running = Spent budget
+answer_at budget core (endings.Exited at length) = Ended (exit_text core)
+answer_at budget core (endings.Halted cause pc) = Halted cause pc
+
+-- The calls are, in this order, those of the machine's steps from the file's image, of which no more than the budget
+-- were made, and the answer is that of where the machine came to. So the file's run at the budget, whose input is what
+-- the takes brought and whatever came behind it, reads just what they brought and writes what the puts wrote.
+pub record IsRunBy (file : List ℕ) (budget : ℕ) (calls : List StreamCall) (answer : Answer) : Type 0 where
+  pub parts : ImageParts
+  pub image : image_of file ≡ Ok parts
+  pub end : Core
+  pub answers : answer ≡ answer_at budget end end.ending
+  pub stretches : List Stretch
+  pub are : calls ≡ calls_of stretches
+  pub goes : Goes stretches (start_of parts []).core end
+  pub within : steps_of stretches ≤ budget
+  -- the whole run
+  pub runs : (l : List ℕ) → IsSteady calls l → vrun file (brought_in calls ++ l) budget ≡ Some (state end l (written_in calls))
+
+-- The calls are those of fewer steps than the budget, and then those of a system call of which the last failed.
+pub record IsRunTo (file : List ℕ) (budget : ℕ) (calls : List StreamCall) (object : Failing) : Type 0 where
+  pub parts : ImageParts
+  pub image : image_of file ≡ Ok parts
+  pub before : Core
+  pub stretches : List Stretch
+  pub last : List StreamCall
+  pub are : calls ≡ calls_of stretches ++ last
+  pub goes : Goes stretches (start_of parts []).core before
+  pub fewer : steps_of stretches < budget
+  pub end : Core
+  pub fails : Fails (Some object) last before end
+  -- the run up to that system call
+  pub runs : (l : List ℕ) → IsSteady (calls_of stretches) l →
+      vrun file (brought_in (calls_of stretches) ++ l) (steps_of stretches) ≡ Some (state before l (written_in (calls_of stretches)))
+
 -- The calls on the source and the sink behind the read of this file, by which each answer comes: none failed, or
--- only the last, on the object that the answer says.
+-- only the last, on the object that the answer says. They are those of the run of the file's bytes.
 abbrev pub FileCalls : (name file : List ℕ) (budget : ℕ) → Answer → List StreamCall → Type 0
-FileCalls name file budget (Ended text) calls = IsExecutable file × StreamsFine calls
+FileCalls name file budget (Ended text) calls =
+    IsExecutable file × StreamsFine calls × IsRunBy file budget calls (Ended text)
 FileCalls name file budget Usage calls = ⊥
 FileCalls name file budget (Twice x m n) calls = ⊥
 FileCalls name file budget NoMain calls = ⊥
@@ -42,12 +83,16 @@ FileCalls name file budget (MainType m) calls = ⊥
 FileCalls name file budget (Unresolved x m) calls = ⊥
 FileCalls name file budget (Disagree x m n) calls = ⊥
 FileCalls name file budget (Absent word) calls = ⊥
-FileCalls name file budget ReadFault calls = IsExecutable file × StreamsEnd calls (Some Input)
-FileCalls name file budget WriteFault calls = IsExecutable file × StreamsEnd calls (Some Out)
+FileCalls name file budget ReadFault calls =
+    IsExecutable file × StreamsEnd calls (Some Input) × IsRunTo file budget calls Input
+FileCalls name file budget WriteFault calls =
+    IsExecutable file × StreamsEnd calls (Some Out) × IsRunTo file budget calls Out
 FileCalls name file budget (StoreFault word) calls = ⊥
 FileCalls name file budget Memory calls = calls ≡ []
-FileCalls name file budget (Halted cause pc) calls = IsExecutable file × StreamsFine calls
-FileCalls name file budget (Spent n) calls = (n ≡ budget) × IsExecutable file × StreamsFine calls
+FileCalls name file budget (Halted cause pc) calls =
+    IsExecutable file × StreamsFine calls × IsRunBy file budget calls (Halted cause pc)
+FileCalls name file budget (Spent n) calls =
+    (n ≡ budget) × IsExecutable file × StreamsFine calls × IsRunBy file budget calls (Spent n)
 FileCalls name file budget (BadMagic word magic) calls = (word ≡ name) × IsRefused file (fault.BadMagic magic) calls
 FileCalls name file budget (ShortFile word need) calls = (word ≡ name) × IsRefused file (fault.ShortFile need) calls
 FileCalls name file budget (BadSegment word) calls = (word ≡ name) × IsRefused file fault.BadSegment calls
@@ -91,12 +136,6 @@ FileDoes takes puts i o j p name file budget answer =
     (calls : List StreamCall) × StreamsDid takes puts i o calls j p × FileCalls name file budget answer calls
 
 -- The content
-
--- the answer to a run that has come to such an end
-abbrev pub answer_at : (budget : ℕ) → Core → Ending → Answer
-answer_at budget core endings.Running = Spent budget
-answer_at budget core (endings.Exited at length) = Ended (exit_text core)
-answer_at budget core (endings.Halted cause pc) = Halted cause pc
 
 -- the answer to a simulation that has stopped so
 abbrev pub stop_answer : (budget : ℕ) → Core → Stop → Answer

@@ -5,6 +5,7 @@ ghost use Rattle.p9_suite.specs.Answers.{message, status};
 ghost use Rattle.p9_suite.specs.Commands.{command_of};
 ghost use Rattle.p9_suite.specs.Reports.{Tells};
 ghost use Rattle.p9_suite.specs.RunContent.{Headline, RunSays, TellsRun};
+ghost use Rattle.p9_suite.specs.Shown.{Shown};
 ghost use Rattle.p9_suite.specs.Suite.{CommandMakes, CommandTells, SuiteDoes, CallsMade, StatusSays, IsRefused, ViSays, doing, objects, fault_counts};
 
 use crate::answer::Answer;
@@ -71,6 +72,11 @@ pub fn suite<I: Source, O: Sink, E: Sink, F: Files>(
 
     // The answer of `run` is that of the files in the store and of their executable's run.
     ensures run { RunSays words.now (F.held files.old) (F.held files.new) (I.left input.old) (I.left input.new) (O.sofar out.old) (O.sofar out.new) result
+        (λ line. Tells E.sofar E.faults err.old err.new line) }
+
+    // Whatever the objects tell: what `run` takes and puts is what its executable's run reads and writes, and what
+    // the files come to.
+    ensures shown { Shown (doing I.did O.did F.did) (objects input.old out.old files.old) (objects input.new out.new files.new) words.now result
         (λ line. Tells E.sofar E.faults err.old err.new line) }
 
     // A refusal takes and puts nothing.

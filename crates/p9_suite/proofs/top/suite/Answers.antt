@@ -1,4 +1,5 @@
 use Rattle.p9_suite.proofs.Ordered.{calls_made}
+use Rattle.p9_suite.proofs.RunShown.{run_shown}
 use Rattle.p9_suite.proofs.SuiteLemmas.{headline, run_says, suite_says, quiet, vi_says}
 use Rattle.p9_suite.specs.Reports.{Tells}
 use Rattle.p9_suite.specs.RunContent.{TellsRun}
@@ -51,3 +52,11 @@ returns-clause-out g c = λ refused.
     (quiet g.I.Source.left g.I.Source.did g.O.Sink.sofar g.O.Sink.did g.F.Files.held g.F.Files.faults g.F.Files.did g.met.F.Files.means
     c.args.input.now c.args.out.now c.args.files.now c.answer-answer.new.input c.answer-answer.new.out c.answer-answer.new.files
     c.args.words.now c.answer-answer.result c.status.result c.answer-answer.ensures.makes c.status.ensures refused).1
+
+pub returns-clause-shown : goal.returns-clause-shown
+returns-clause-shown g c =
+    run_shown g.I.Source.did g.O.Sink.did g.F.Files.did c.args.input.now c.args.out.now c.args.files.now
+    c.answer-answer.new.input c.answer-answer.new.out c.answer-answer.new.files
+    (TellsRun (g.I.Source.left c.args.input.now) (g.I.Source.left c.answer-answer.new.input) (g.O.Sink.sofar c.args.out.now) (g.O.Sink.sofar c.answer-answer.new.out))
+    c.args.words.now c.answer-answer.result c.status.result (λ line. Tells g.E.Sink.sofar g.E.Sink.faults c.args.err.now c.report.new.sink line)
+    c.answer-answer.ensures.makes c.status.ensures c.report.ensures
