@@ -50,6 +50,10 @@ whole_shown file parts n budget calls end e q ended on l h =
     vrun_is file parts (brought_in calls ++ l) budget e
     ∙ ap (λ (s : State). Some s) (whole_budget n budget x q (same_end n budget end (run n x).core c ended) ∙ sym r)
 
+spends : (n budget : ℕ) (e : Ending) → (n ≡ budget) ⊎ HasEnded e → e ≡ endings.Running → n ≡ budget
+spends n budget e (inl q) r = q
+spends n budget e (inr h) r = absurd (subst (λ (x : Ending). HasEnded x) r h)
+
 -- Of a simulation in which nothing failed
 
 shown : {I O : Type 0} (takes : I → TakeCall → I → Type 0) (puts : O → PutCall → O → Type 0) (i j : I) (o p : O) (Count : ℕ → Type 0) (file : List ℕ) (budget : ℕ) (parts : ImageParts) (new : Core) (answer : Answer) →
@@ -74,6 +78,7 @@ shown takes puts i j o p Count file budget parts new answer e t count a =
         are = refl;
         goes = goes;
         within = k.0;
+        spent = spends n budget new.ending k.1;
         runs = whole_shown file parts n budget calls new e k.0 k.1 (goes_whole t.stretches (start_of parts []).core new goes);
       },
     )

@@ -52,6 +52,8 @@ pub record IsRunBy (file : List ℕ) (budget : ℕ) (calls : List StreamCall) (a
   pub are : calls ≡ calls_of stretches
   pub goes : Goes stretches (start_of parts []).core end
   pub within : steps_of stretches ≤ budget
+  -- all of it, where the machine still runs
+  pub spent : end.ending ≡ endings.Running → steps_of stretches ≡ budget
   -- the whole run
   pub runs : (l : List ℕ) → IsSteady calls l → vrun file (brought_in calls ++ l) budget ≡ Some (state end l (written_in calls))
 
