@@ -1,3 +1,5 @@
 pub mod Uses
 pub mod Declared
 pub mod Seen
+pub mod Fit
+pub mod FromNames
