@@ -110,7 +110,7 @@ find_main files s h (OfFile i f e w) l d n = by (origin_of f s w)
 
 -- Uses
 
-definition_is : (f : First) (used : Bool) → is_definition (body_of f used) ≡ defines_first f
+pub definition_is : (f : First) (used : Bool) → is_definition (body_of f used) ≡ defines_first f
 definition_is first.Extern true = refl
 definition_is first.Extern false = refl
 definition_is first.Zero used = refl

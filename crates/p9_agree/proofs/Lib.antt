@@ -6,3 +6,6 @@ pub mod FromNames
 pub mod Sources
 pub mod FromSources
 pub mod ToSources
+pub mod Named
+pub mod ToNames
+pub mod Agreement

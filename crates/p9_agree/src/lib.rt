@@ -2,6 +2,6 @@
 //! calls joining, by names, roles and types.
 #![tactic(auto)]
 
-mod agreement;
+mod laws;
 
-pub use agreement::files_join_as_sources;
+pub use laws::files_join_as_sources;

@@ -2,7 +2,6 @@
 ghost use Rattle.p9_agree.specs.Agreement.{FilesJoinAsSources};
 
 /// Files of the form join by name exactly where their C modules join.
-#[tactic(auto, using(crate::proofs::Agreement::files_join_as_sources))]
 pub fn files_join_as_sources()
     ensures { FilesJoinAsSources }
 {}
