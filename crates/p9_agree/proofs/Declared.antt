@@ -1,10 +1,10 @@
 -- What the module of a file of the form declares: each variable and `main` once, with its type.
-use Rattle.std.proofs.Common.{◌≡◌, ℕ, ◌+◌, Bool, true, false, ◌||◌, if◌then◌else◌, List, [], ◌∷◌, ◌++◌, map, Some, None, Option, refl, sym, ap, ◌∙◌, subst, append-nil, codes}
+use Rattle.std.proofs.Common.{◌≡◌, ℕ, ◌+◌, Bool, true, false, if◌then◌else◌, List, [], ◌∷◌, ◌++◌, map, Some, None, Option, refl, sym, ap, ◌∙◌, subst, append-nil, codes}
 use Rattle.p9_lang.specs.Types.{TypeTree, Int, Long}
 use Rattle.p9_lang.specs.Trees.{none, SyntaxRow, nodes_of}
 use Rattle.p9_lang.specs.Form.{same_name, is_among, is_variable_name, IsFile}
-use Rattle.p9_lang.specs.Typing.{Scope, outer, texts_in, system_scope, scope_after}
-use Rattle.p9_lang.specs.Modules.{Typed, Declaration as Declared, Way, Only, Tentative, Initial, Body, declarations as declared_by, declarations_in, declarations_of, SymbolKind, kind_of, system_names}
+use Rattle.p9_lang.specs.Typing.{Scope, texts_in, system_scope, scope_after}
+use Rattle.p9_lang.specs.Modules.{Declaration as Declared, Way, Only, Tentative, Initial, Body, declarations as declared_by, declarations_in, declarations_of, system_names}
 use Rattle.p9_lang.proofs.Labels.{typed_item, typed_items, source_items}
 use Rattle.p9_form.specs.declared.file.Statement.{Statement}
 use Rattle.p9_form.specs.declared.file.First.{First}
@@ -12,9 +12,10 @@ use Rattle.p9_form.specs.declared.file.First.TheVariants as first
 use Rattle.p9_form.specs.declared.file.Declaration.{Declaration}
 use Rattle.p9_form.specs.declared.file.File.{File}
 use Rattle.p9_form.specs.Items.{declaration_tree, declaration_trees, declaration_size, declarations_size, main_tree, main_trees, main_size, items_of, source_of}
-use Rattle.p9_cmean.specs.Joins.{Role, Declares, Uses, DefinesCode, DefinesData, DefinesCommon, Occurrence, role_of, main_type}
+use Rattle.p9_cmean.specs.Joins.{Role, Declares, DefinesCode, DefinesData, DefinesCommon, Occurrence, main_type}
 use Rattle.p9_straight.proofs.SourceLists.{Each, each_weaker, each_both, bool_cases, neither, neither_left, neither_right, same_is, same_self, true_not}
 use Rattle.p9_straight.proofs.SourceForm.{AreNew, names_behind, FileForm}
+use Rattle.p9_straight.proofs.SourceSymbols.{differs}
 use Rattle.p9_straight.proofs.SourceTyped.{Thing, AVariable, AMain, main_thing, things, other_name, no_main}
 
 -- What a declaration says of its name, before it is known whether the name is used
@@ -91,12 +92,6 @@ file_briefs file h =
 
 -- Names are declared once
 
-pub differs : (x y : List ℕ) → is_variable_name x ≡ true → is_variable_name y ≡ false → same_name x y ≡ false
-differs x y v h =
-    bool_cases (same_name x y)
-    (λ e. true_not (is_variable_name x) v (subst (λ z. is_variable_name z ≡ false) (sym (same_is x y e)) h))
-    (λ e. e)
-
 same_turned : (x y : List ℕ) → same_name x y ≡ false → same_name y x ≡ false
 same_turned x y h =
     bool_cases (same_name y x)
@@ -156,7 +151,6 @@ fresh_things file f =
     (λ known c m. fresh_main (names_behind [] file.before) known file.main file.after c m f.after)
 
 -- so each declared name has one declaration
-
 
 unknown : (known : List (List ℕ)) (ds : List Declared) → AreFresh known (map brief ds) → Each (λ d. is_among known d.name ≡ false) ds
 unknown known [] h = tt

@@ -1,7 +1,7 @@
 -- When files fit together, in the terms of the files alone: both notions of joining come to it.
-use Rattle.std.proofs.Common.{◌≡◌, ◌⊎◌, inl, inr, ◌<◌, ◌≤◌, ℕ, zero, suc, Bool, true, false, not, List, Some, Option, refl, sym, ap, ◌∙◌, arith, codes}
+use Rattle.std.proofs.Common.{◌≡◌, ◌<◌, ℕ, Bool, true, false, List, Some, refl, sym, ap, ◌∙◌}
 use Rattle.std.specs.Prelude.{slice_get}
-use Rattle.p9_lang.specs.Form.{same_name, is_among, functions}
+use Rattle.p9_lang.specs.Form.{is_among, functions}
 use Rattle.p9_form.specs.declared.file.Statement.{Statement}
 use Rattle.p9_form.specs.declared.file.First.{First}
 use Rattle.p9_form.specs.declared.file.First.TheVariants as first
@@ -71,7 +71,3 @@ never_true false h = refl
 -- a variable's name is no function's
 pub not_function : (x y : List ℕ) → is_among functions x ≡ false → is_among functions y ≡ true → x ≡ y → ⊥
 not_function x y h g e = true_false (sym g ∙ ap (is_among functions) (sym e) ∙ h)
-
--- two texts that differ
-pub not_named : (x y z : List ℕ) → x ≡ y → x ≡ z → same_name y z ≡ false → same_name y y ≡ true → ⊥
-not_named x y z e g n s = true_false (sym s ∙ ap (same_name y) (sym e ∙ g) ∙ n)

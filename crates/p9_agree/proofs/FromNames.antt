@@ -1,8 +1,7 @@
 -- Files whose modules join by name fit together.
-use Rattle.std.proofs.Common.{◌≡◌, ◌⊎◌, inl, inr, ◌<◌, ℕ, Bool, true, false, ◌||◌, List, [], ◌∷◌, map, Some, All, refl, sym, ap, ◌∙◌, subst, codes}
+use Rattle.std.proofs.Common.{◌≡◌, ◌<◌, ℕ, Bool, true, false, ◌||◌, List, map, Some, All, refl, sym, ap, ◌∙◌, subst, codes}
 use Rattle.std.specs.Prelude.{slice_get}
 use Rattle.p9_abs.specs.declared.modules.Symbol.{Symbol}
-use Rattle.p9_abs.specs.declared.modules.Body.{Body}
 use Rattle.p9_abs.specs.declared.modules.Body.TheVariants.{Used}
 use Rattle.p9_abs.specs.Modules.{size_of, is_definition}
 use Rattle.p9_lang.specs.Form.{same_name, is_among, functions, IsFile}
@@ -14,16 +13,15 @@ use Rattle.p9_form.specs.declared.file.File.{File}
 use Rattle.p9_form.specs.Items.{items_of}
 use Rattle.p9_form.specs.Sharing.{declarations}
 use Rattle.p9_form.proofs.Formed.{file_fits}
-use Rattle.p9_names.specs.declared.table.Def.{Def}
 use Rattle.p9_names.specs.declared.rules.Rule.{Rule}
 use Rattle.p9_names.specs.declared.rules.Rule.TheVariants.{Once, Agreement}
-use Rattle.p9_names.specs.Linking.{Occurs, Defines, IsKept, is_use}
-use Rattle.p9_names.specs.Rules.{breaks, clash, signatures_differ, sizes_differ, differ}
+use Rattle.p9_names.specs.Linking.{Occurs, IsKept, is_use}
+use Rattle.p9_names.specs.Rules.{breaks, clash, signatures_differ, sizes_differ}
 use Rattle.p9_names.specs.Answers.{linked, Joins}
 use Rattle.p9_share.specs.Symbols.{module_of, symbols_of, signature_of, body_of, variable_symbol, main_symbol, used_names}
 use Rattle.p9_share.proofs.Within.{Within, all_within}
 use Rattle.p9_share.proofs.Joined.{place_of, module_at, occurs_there, variable_there, main_there, Origin, OfSystem, OfVariable, OfMain, origin_of, From, OfFile, OfBuiltIn, symbol_from, builtin_names, variables_of, used_defines}
-use Rattle.p9_agree.proofs.Fit.{defines_first, both_numbers, AreAlike, HasMainAt, HasDefinition, Fit, true_false, false_true, never_true, not_function}
+use Rattle.p9_agree.proofs.Fit.{defines_first, both_numbers, AreAlike, HasMainAt, HasDefinition, Fit, true_false, never_true, not_function}
 
 abbrev AreFiles : List File → Type 0
 AreFiles files = All (λ f. IsFile (items_of f)) files

@@ -1,8 +1,8 @@
 -- Files whose C modules join fit together.
-use Rattle.std.proofs.Common.{◌≡◌, ◌⊎◌, inl, inr, ◌<◌, ℕ, Bool, true, false, not, IsTrue, List, [], ◌∷◌, map, Some, Option, All, refl, sym, ap, ◌∙◌, subst, codes}
+use Rattle.std.proofs.Common.{◌≡◌, ◌<◌, ℕ, Bool, true, false, not, List, map, Some, All, refl, sym, ap, ◌∙◌, codes}
 use Rattle.std.specs.Prelude.{slice_get}
-use Rattle.p9_lang.specs.Types.{TypeTree, Int, Long}
-use Rattle.p9_lang.specs.Form.{same_name, is_among, functions, IsFile}
+use Rattle.p9_lang.specs.Types.{Int, Long}
+use Rattle.p9_lang.specs.Form.{is_among, functions, IsFile}
 use Rattle.p9_form.specs.declared.file.Statement.{Statement}
 use Rattle.p9_form.specs.declared.file.First.{First}
 use Rattle.p9_form.specs.declared.file.First.TheVariants as first
@@ -12,12 +12,12 @@ use Rattle.p9_form.specs.Items.{items_of, source_of}
 use Rattle.p9_form.specs.Sharing.{declarations}
 use Rattle.p9_share.specs.Symbols.{used_names}
 use Rattle.p9_share.proofs.Within.{Within, all_within}
-use Rattle.p9_cmean.specs.Joins.{Role, Declares, Uses, DefinesCode, DefinesData, DefinesCommon, Occurrence, Occurs, defines, may_meet, shared, Join}
+use Rattle.p9_cmean.specs.Joins.{Role, Declares, Uses, DefinesCode, DefinesData, DefinesCommon, Occurrence, defines, may_meet, Join}
 use Rattle.p9_agree.proofs.Declared.{number_type, first_role, main_brief}
 use Rattle.p9_agree.proofs.Seen.{shown, variable_seen, IsMereRole, Seen, SeenSystem, SeenVariable, SeenMain, seen_of, variable_seen_there, main_seen_there}
-use Rattle.p9_agree.proofs.Fit.{defines_first, both_numbers, AreAlike, HasMainAt, HasDefinition, Fit, true_false, false_true, not_function}
+use Rattle.p9_agree.proofs.Fit.{defines_first, both_numbers, AreAlike, HasMainAt, HasDefinition, Fit, true_false, false_true}
 use Rattle.p9_agree.proofs.FromNames.{no_function}
-use Rattle.p9_agree.proofs.Sources.{sources, Owner, OfFile, OfSuite, owner_of, occurs_in_file, OfTheSuite, UsesMain, HasCall, suite_of, call_name}
+use Rattle.p9_agree.proofs.Sources.{Owner, OfFile, OfSuite, owner_of, occurs_in_file, OfTheSuite, UsesMain, HasCall, suite_of, not_call, call_not_main, not_main}
 
 abbrev AreFiles : List File → Type 0
 AreFiles files = All (λ f. IsFile (items_of f)) files
@@ -99,12 +99,12 @@ find_main files i a h (OfSuite e w) n d = by (suite_of a w)
   where
     by : OfTheSuite a → HasMainAt files
     by (UsesMain g) = absurd (true_false (sym d ∙ ap (λ (o : Occurrence). defines o.role) g))
-    by (HasCall s t r) = absurd (true_false (sym (ap (λ x. same_name x (codes "main")) n) ∙ (call_name a.name s).1))
+    by (HasCall s t r) = absurd (call_not_main a.name s n)
 find_main files i a h (OfFile f e w) n d = by (seen_of f (file_of files i f h e) a w)
   where
     by : Seen f a → HasMainAt files
     by (SeenSystem s t r) = absurd (not_mere a.role r d)
-    by (SeenVariable c v o) = absurd (not_function c.name (codes "main") (no_function files i f c h e v) refl (sym (ap (λ (o : Occurrence). o.name) o) ∙ n))
+    by (SeenVariable c v o) = absurd (not_main c.name (no_function files i f c h e v) (sym (ap (λ (o : Occurrence). o.name) o) ∙ n))
     by (SeenMain ss m o) = record { place = i; file = f; statements = ss; there = e; has = m }
 
 find_definition : (files : List File) (i : ℕ) (a : Occurrence) (x : List ℕ) → AreFiles files → is_among functions x ≡ false → Owner files i a → a.name ≡ x → defines a.role ≡ true → HasDefinition files x
@@ -112,7 +112,7 @@ find_definition files i a x h v (OfSuite e w) n d = by (suite_of a w)
   where
     by : OfTheSuite a → HasDefinition files x
     by (UsesMain g) = absurd (true_false (sym d ∙ ap (λ (o : Occurrence). defines o.role) g))
-    by (HasCall s t r) = absurd (not_function x a.name v (call_name a.name s).0 (sym n))
+    by (HasCall s t r) = absurd (not_call a.name x s v n)
 find_definition files i a x h v (OfFile f e w) n d = by (seen_of f (file_of files i f h e) a w)
   where
     by : Seen f a → HasDefinition files x
@@ -126,7 +126,7 @@ find_definition files i a x h v (OfFile f e w) n d = by (seen_of f (file_of file
       named = sym (ap (λ (o : Occurrence). o.name) o) ∙ n;
       defining = sym (defines_is c.first (is_among (used_names f) c.name)) ∙ sym (ap (λ (o : Occurrence). defines o.role) o) ∙ d;
     }
-    by (SeenMain ss m o) = absurd (not_function x (codes "main") v refl (sym n ∙ ap (λ (o : Occurrence). o.name) o))
+    by (SeenMain ss m o) = absurd (not_main x v (sym n ∙ ap (λ (o : Occurrence). o.name) o))
 
 resolved : (files : List File) (i : ℕ) (f : File) (d : Declaration) → AreFiles files → Join (map source_of files) → slice_get files i ≡ Some f → Within (declarations f) d
     → d.first ≡ first.Extern → is_among (used_names f) d.name ≡ true → HasDefinition files d.name

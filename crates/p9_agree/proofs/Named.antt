@@ -1,6 +1,6 @@
 -- The symbols of files' modules and of the built-in module, and where they stand.
-use Rattle.std.proofs.Common.{◌≡◌, ◌⊎◌, inl, inr, ℕ, zero, suc, Bool, true, false, if◌then◌else◌, List, [], ◌∷◌, ◌++◌, map, length, Some, None, Option, refl, sym, ap, ◌∙◌, subst, codes}
-use Rattle.std.specs.Prelude.{slice_get, option_and_then}
+use Rattle.std.proofs.Common.{◌≡◌, ◌⊎◌, inl, inr, ℕ, zero, suc, Bool, true, false, if◌then◌else◌, List, [], ◌∷◌, ◌++◌, map, length, Some, None, Option, refl, sym, ap, subst, codes}
+use Rattle.std.specs.Prelude.{slice_get}
 use Rattle.std.specs.List.{list_any}
 use Rattle.p9_abs.specs.declared.modules.Symbol.{Symbol}
 use Rattle.p9_abs.specs.declared.modules.Body.TheVariants.{Used}
@@ -11,7 +11,7 @@ use Rattle.p9_form.specs.declared.file.Declaration.{Declaration}
 use Rattle.p9_form.specs.declared.file.File.{File}
 use Rattle.p9_form.specs.Sharing.{declarations, statements}
 use Rattle.p9_names.specs.declared.table.Def.{Def}
-use Rattle.p9_names.specs.BuiltIn.{builtin_module, builtin_symbols, used_main}
+use Rattle.p9_names.specs.BuiltIn.{builtin_symbols, used_main}
 use Rattle.p9_names.specs.Linking.{symbol_at}
 use Rattle.p9_names.specs.Rules.{is_text}
 use Rattle.p9_names.specs.Answers.{linked}

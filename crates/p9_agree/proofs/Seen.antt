@@ -1,22 +1,20 @@
 -- How names occur in the C module of a file of the form: system calls, variables, and `main`.
-use Rattle.std.proofs.Common.{◌≡◌, ◌⊎◌, inl, inr, ℕ, zero, suc, ◌+◌, Bool, true, false, not, ◌||◌, if◌then◌else◌, List, [], ◌∷◌, ◌++◌, map, flat_map, filter, Some, None, Option, Contains, slice_index_or, refl, sym, ap, ◌∙◌, subst, codes}
-use Rattle.std.specs.Prelude.{slice_get}
+use Rattle.std.proofs.Common.{◌≡◌, ◌⊎◌, inl, inr, ℕ, Bool, true, false, not, if◌then◌else◌, List, [], ◌∷◌, ◌++◌, map, filter, Some, None, Option, Contains, refl, sym, ap, ◌∙◌, subst, codes}
 use Rattle.p9_lang.specs.Types.{TypeTree}
 use Rattle.p9_lang.specs.Form.{same_name, is_among, is_variable_name, IsFile}
-use Rattle.p9_lang.specs.Modules.{Source, TextObject, Declaration as Declared, Way, Only, Tentative, Initial, Body, declarations_of, Symbol, SymbolKind, kind_of, system_names, system_type, first_type, symbol_of, symbol_names, new_names, declared_names, uses_in_row, texts_of_row, text_symbol, symbols}
+use Rattle.p9_lang.specs.Modules.{Declaration as Declared, Way, Only, Tentative, Initial, Body, declarations_of, Symbol, kind_of, system_names, system_type, first_type, symbol_of, symbol_names, new_names, declared_names, uses_in_row, texts_of_row, text_symbol, symbols}
 use Rattle.p9_form.specs.declared.file.Statement.{Statement}
 use Rattle.p9_form.specs.declared.file.Declaration.{Declaration}
 use Rattle.p9_form.specs.declared.file.File.{File}
 use Rattle.p9_form.specs.Items.{items_of, source_of}
 use Rattle.p9_form.specs.Sharing.{declarations, statements}
-use Rattle.p9_form.proofs.Formed.{FitsFile, file_fits}
 use Rattle.p9_share.specs.Symbols.{used_names}
-use Rattle.p9_share.proofs.Within.{Within, within_left, within_right, within_map, from_map, within_append, within_step, within_none, within_next, get_at, contains_within}
-use Rattle.p9_cmean.specs.Joins.{Role, Declares, Uses, DefinesCode, DefinesData, DefinesCommon, Occurrence, occurrence, role_of, shared}
-use Rattle.p9_straight.proofs.SourceLists.{Each, each_weaker, each_at, bool_cases, not_true, neither, neither_left, neither_right, same_is, true_not}
-use Rattle.p9_straight.proofs.SourceForm.{FileForm, file_form, AreNew}
+use Rattle.p9_share.proofs.Within.{Within, within_left, within_right, within_map, from_map, within_append, within_step, within_none, within_next, get_at}
+use Rattle.p9_cmean.specs.Joins.{Role, Declares, Uses, Occurrence, occurrence, role_of, shared}
+use Rattle.p9_straight.proofs.SourceLists.{Each, each_weaker, each_at, neither, neither_left, neither_right, same_is, true_not}
+use Rattle.p9_straight.proofs.SourceForm.{file_form, AreNew}
 use Rattle.p9_straight.proofs.SourceTyped.{Thing, AVariable, AMain, main_thing, things}
-use Rattle.p9_agree.proofs.Uses.{uses_by, file_uses, used_same}
+use Rattle.p9_agree.proofs.Uses.{file_uses, used_same}
 use Rattle.p9_agree.proofs.Declared.{way_role, brief, variable_brief, main_brief, thing_brief, declared_in, file_briefs, IsAlone, AreOnce, declared_once, not_declared}
 
 -- Lists
@@ -265,13 +263,13 @@ thing_there f h t w a e =
     let r = from_map brief (declared_in f) (thing_brief t) (subst (λ l. Within l (thing_brief t)) (sym (file_briefs f h)) (within_map thing_brief (things f) t w)) in
     let once = declared_once f h (file_form f h) in
     let o : occurrence (symbol_of (source_of f) r.0.name) ≡ a =
-        declared_occurrence f r.0 (each_at (IsAlone (declared_in f)) (declared_in f) r.1.0 r.0 once.alone r.1.1)
-        ∙ ap (λ b. if_used b (used_in f b.name)) (sym r.2) ∙ e in
+    declared_occurrence f r.0 (each_at (IsAlone (declared_in f)) (declared_in f) r.1.0 r.0 once.alone r.1.1)
+    ∙ ap (λ b. if_used b (used_in f b.name)) (sym r.2) ∙ e in
     let new = each_at (λ d. is_among system_names d.name ≡ false) (declared_in f) r.1.0 r.0 once.new r.1.1 in
     let x = r.0.name in
     let named : Within (symbol_names (source_of f)) x =
-        within_right (filter (λ y. is_among (declared_names (source_of f) ++ uses_in_row (source_of f).items) y) system_names) (new_names system_names (declared_names (source_of f))) x
-        (within_new system_names (declared_names (source_of f)) x (within_map (λ d. d.name) (declared_in f) r.0 r.1) new) in
+    within_right (filter (λ y. is_among (declared_names (source_of f) ++ uses_in_row (source_of f).items) y) system_names) (new_names system_names (declared_names (source_of f))) x
+    (within_new system_names (declared_names (source_of f)) x (within_map (λ d. d.name) (declared_in f) r.0 r.1) new) in
     subst (Within (shared (source_of f))) o
     (within_map occurrence (filter (λ symbol. not symbol.is_local) (symbols (source_of f))) (symbol_of (source_of f) x)
     (within_filter (λ symbol. not symbol.is_local) (symbols (source_of f)) (symbol_of (source_of f) x)

@@ -1,19 +1,14 @@
 -- How names occur in the C modules of files, and in the suite's own module.
-use Rattle.std.proofs.Common.{◌≡◌, ◌⊎◌, inl, inr, ◌<◌, ◌≤◌, ℕ, zero, suc, Bool, true, false, List, [], ◌∷◌, ◌++◌, map, length, Some, None, Option, Contains, All, refl, sym, ap, ◌∙◌, subst, arith, codes}
-use Rattle.std.specs.Prelude.{slice_get, unwrap_or}
-use Rattle.p9_lang.specs.Form.{same_name, is_among, functions, IsFile}
-use Rattle.p9_lang.specs.Typing.{exits_type, transfer_type}
+use Rattle.std.proofs.Common.{◌≡◌, ℕ, zero, suc, true, false, List, [], ◌∷◌, map, length, Some, None, Contains, refl, sym, ap, ◌∙◌, subst, codes}
+use Rattle.std.specs.Prelude.{slice_get}
+use Rattle.p9_lang.specs.Form.{same_name, is_among, functions}
 use Rattle.p9_lang.specs.Modules.{system_names, system_type}
-use Rattle.p9_form.specs.declared.file.Statement.{Statement}
-use Rattle.p9_form.specs.declared.file.Declaration.{Declaration}
 use Rattle.p9_form.specs.declared.file.File.{File}
-use Rattle.p9_form.specs.Items.{items_of, source_of}
-use Rattle.p9_form.specs.Sharing.{declarations}
-use Rattle.p9_share.specs.Symbols.{used_names}
-use Rattle.p9_share.proofs.Within.{Within, within_step, within_none, all_within, contains_within, get_below}
-use Rattle.p9_cmean.specs.Joins.{Role, Uses, DefinesCode, Occurrence, shared, all_shared, system_module, Occurs}
-use Rattle.p9_agree.proofs.Declared.{main_brief}
-use Rattle.p9_agree.proofs.Seen.{within_contained, variable_seen, IsMereRole, Seen, SeenSystem, SeenVariable, SeenMain, seen_of, variable_seen_there, main_seen_there}
+use Rattle.p9_form.specs.Items.{source_of}
+use Rattle.p9_share.proofs.Within.{Within, within_none, contains_within}
+use Rattle.p9_cmean.specs.Joins.{Uses, DefinesCode, Occurrence, shared, all_shared, system_module, Occurs}
+use Rattle.p9_agree.proofs.Fit.{true_false, not_function}
+use Rattle.p9_agree.proofs.Seen.{within_contained}
 
 abbrev pub sources : List File → List (List Occurrence)
 sources files = all_shared (map source_of files)
@@ -97,3 +92,13 @@ call_name x w = go w.0 w.1
     go (suc zero) e = subst Fine (some_is e) (refl, refl)
     go (suc (suc zero)) e = subst Fine (some_is e) (refl, refl)
     go (suc (suc (suc k))) e = absurd (none_not e)
+
+-- so it is neither a variable's name nor `main`
+pub not_call : (x y : List ℕ) → Within system_names x → is_among functions y ≡ false → x ≡ y → ⊥
+not_call x y w h e = not_function y x h (call_name x w).0 (sym e)
+
+pub call_not_main : (x : List ℕ) → Within system_names x → x ≡ codes "main" → ⊥
+call_not_main x w e = true_false (sym (ap (λ y. same_name y (codes "main")) e) ∙ (call_name x w).1)
+
+pub not_main : (x : List ℕ) → is_among functions x ≡ false → x ≡ codes "main" → ⊥
+not_main x h e = not_function x (codes "main") h refl e

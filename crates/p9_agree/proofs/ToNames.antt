@@ -1,5 +1,5 @@
 -- The modules of files that fit together join by name.
-use Rattle.std.proofs.Common.{◌≡◌, ◌⊎◌, inl, inr, ◌<◌, ◌≤◌, ℕ, zero, suc, Bool, true, false, not, ◌&&◌, ◌||◌, List, [], ◌∷◌, map, length, Some, None, Option, All, refl, sym, ap, ◌∙◌, subst, arith, codes, bytes_eq}
+use Rattle.std.proofs.Common.{◌≡◌, ◌⊎◌, inl, inr, ◌<◌, ◌≤◌, ℕ, zero, suc, Bool, true, false, not, ◌&&◌, ◌||◌, List, [], ◌∷◌, map, length, Some, None, All, refl, sym, ap, ◌∙◌, subst, arith, codes}
 use Rattle.std.specs.Prelude.{slice_get}
 use Rattle.std.specs.List.{list_any}
 use Rattle.p9_abs.specs.declared.modules.AModule.{AModule}
@@ -7,7 +7,7 @@ use Rattle.p9_abs.specs.declared.modules.Symbol.{Symbol}
 use Rattle.p9_abs.specs.declared.modules.Body.{Body}
 use Rattle.p9_abs.specs.declared.modules.Body.TheVariants.{Declared, Used, Text, Data, Common}
 use Rattle.p9_abs.specs.Modules.{size_of, is_definition}
-use Rattle.p9_lang.specs.Form.{same_name, is_among, functions, IsFile}
+use Rattle.p9_lang.specs.Form.{same_name, is_among, IsFile}
 use Rattle.p9_lang.specs.Modules.{system_names}
 use Rattle.p9_form.specs.declared.file.Statement.{Statement}
 use Rattle.p9_form.specs.declared.file.First.{First}
@@ -15,23 +15,21 @@ use Rattle.p9_form.specs.declared.file.First.TheVariants as first
 use Rattle.p9_form.specs.declared.file.Declaration.{Declaration}
 use Rattle.p9_form.specs.declared.file.File.{File}
 use Rattle.p9_form.specs.Items.{items_of}
-use Rattle.p9_form.specs.Sharing.{declarations}
 use Rattle.p9_names.specs.declared.table.Def.{Def}
 use Rattle.p9_names.specs.declared.rules.Rule.{Rule}
 use Rattle.p9_names.specs.declared.rules.Rule.TheVariants.{Once, Agreement}
-use Rattle.p9_names.specs.BuiltIn.{builtin_module, builtin_symbols, used_main}
-use Rattle.p9_names.specs.Linking.{symbol_at, Occurs, Defines, Conflicts, IsKept, HasMain, IsNotAfter, Uses, AllResolved, body_names, module_names, is_use}
-use Rattle.p9_names.specs.Rules.{breaks, clash, is_empty, is_text, is_main, main_name, signatures_differ, sizes_differ, differ}
+use Rattle.p9_names.specs.Linking.{Occurs, Defines, Conflicts, IsKept, HasMain, IsNotAfter, AllResolved, body_names, module_names, is_use}
+use Rattle.p9_names.specs.Rules.{clash, is_empty, is_text, is_main, main_name, signatures_differ, sizes_differ, differ}
 use Rattle.p9_names.specs.Answers.{linked, Joins}
 use Rattle.p9_share.specs.Symbols.{module_of, symbols_of, signature_of, body_of, variable_symbol, main_symbol, used_names}
 use Rattle.p9_share.proofs.Names.{same_bytes, same_is}
 use Rattle.p9_share.proofs.Valid.{same_self}
 use Rattle.p9_share.proofs.Within.{Within, get_below}
 use Rattle.p9_share.proofs.Joined.{place_of, module_at, occurs_there, variable_there, main_there}
-use Rattle.p9_agree.proofs.Fit.{defines_first, both_numbers, AreAlike, HasMainAt, HasDefinition, Fit, true_false, false_true, not_function}
+use Rattle.p9_agree.proofs.Fit.{AreAlike, HasDefinition, Fit, true_false, false_true}
 use Rattle.p9_agree.proofs.FromNames.{no_function, clash_is, definition_is}
-use Rattle.p9_agree.proofs.Sources.{call_name}
-use Rattle.p9_agree.proofs.Named.{call_signature, Named, NamedSystem, NamedVariable, NamedMain, named_of, BuiltIn, IsLocal, UsesMain, HasCall, built_in_of, CallAt, call_at, Owner, OfFile, OfSuite, owner_of, built_in_there}
+use Rattle.p9_agree.proofs.Sources.{not_call, call_not_main, not_main}
+use Rattle.p9_agree.proofs.Named.{call_signature, Named, NamedSystem, NamedVariable, NamedMain, named_of, BuiltIn, IsLocal, UsesMain, HasCall, built_in_of, call_at, Owner, OfFile, OfSuite, owner_of, built_in_there}
 
 abbrev AreFiles : List File → Type 0
 AreFiles files = All (λ f. IsFile (items_of f)) files
@@ -84,16 +82,6 @@ variables_go names others d e h = record {
       ∙ ap (λ c. c || sizes_differ (size_of (variable_symbol names d).body) (size_of (variable_symbol others e).body)) (signature_self (signature_of e.is_long))
       ∙ sizes_same d.first e.first (is_among names d.name) (is_among others e.name);
 }
-
--- a name of a system call is neither a variable's nor `main`
-not_call : (x y : List ℕ) → Within system_names x → is_among functions y ≡ false → x ≡ y → ⊥
-not_call x y w h e = not_function y x h (call_name x w).0 (sym e)
-
-call_not_main : (x : List ℕ) → Within system_names x → x ≡ codes "main" → ⊥
-call_not_main x w e = true_false (sym (ap (λ y. same_name y (codes "main")) e) ∙ (call_name x w).1)
-
-not_main : (x : List ℕ) → is_among functions x ≡ false → x ≡ codes "main" → ⊥
-not_main x h e = not_function x (codes "main") h refl e
 
 files_go : (files : List File) (i j : ℕ) (f g : File) (a b : Symbol) → AreFiles files → Fit files → i < j → slice_get files i ≡ Some f → slice_get files j ≡ Some g
     → Named f a → Named g b → a.name ≡ b.name → Goes a b
@@ -244,8 +232,8 @@ main_first files k e h fit least d = by (owner_of files e d.symbol d.occurs.stan
     by (OfFile f p w) =
         let r = main_is files e.«module» f d.symbol h p (named_of f d.symbol (e.symbol, w)) d.defining d.occurs.named in
         let m : e.«module» ≡ fit.main.place = same_place fit.main.place e.«module»
-            (λ l. fit.one_main fit.main.place e.«module» fit.main.file f fit.main.statements r.0 l fit.main.there p fit.main.has r.1)
-            (λ l. fit.one_main e.«module» fit.main.place f fit.main.file r.0 fit.main.statements l p fit.main.there r.1 fit.main.has) in
+        (λ l. fit.one_main fit.main.place e.«module» fit.main.file f fit.main.statements r.0 l fit.main.there p fit.main.has r.1)
+        (λ l. fit.one_main e.«module» fit.main.place f fit.main.file r.0 fit.main.statements l p fit.main.there r.1 fit.main.has) in
         let g : f ≡ fit.main.file = some_is (sym p ∙ ap (slice_get files) m ∙ fit.main.there) in
         not_after fit.main.place k e m (least e.symbol d.symbol (subst (λ x. slice_get (symbols_of x) e.symbol ≡ Some d.symbol) g w) passes)
 
@@ -259,7 +247,7 @@ has_main files h fit =
     let n : r.element.name ≡ codes "main" = same_is r.element.name (codes "main") (both_right (is_definition r.element.body) (same_name r.element.name (codes "main")) r.passes) in
     let m = main_is files i f r.element h fit.main.there (named_of f r.element (r.number, r.there)) d n in
     let o : Occurs (linked (map module_of files)) r.element.name (place_of i r.number) r.element =
-        occurs_there files i r.number f r.element fit.main.there r.there (ap (λ (s : Symbol). s.local) m.2) in
+    occurs_there files i r.number f r.element fit.main.there r.there (ap (λ (s : Symbol). s.local) m.2) in
     record {
       place = place_of i r.number;
       first = record {

@@ -1,26 +1,24 @@
 -- The C modules of files that fit together join.
-use Rattle.std.proofs.Common.{◌≡◌, ◌⊎◌, inl, inr, ◌<◌, ℕ, Bool, true, false, not, IsTrue, List, [], ◌∷◌, map, length, Some, None, Option, All, refl, sym, ap, ◌∙◌, subst, arith, codes}
+use Rattle.std.proofs.Common.{◌≡◌, inl, ◌<◌, ℕ, Bool, true, false, not, IsTrue, List, map, length, Some, None, Option, All, refl, sym, ap, ◌∙◌, subst, arith, codes}
 use Rattle.std.specs.Prelude.{slice_get}
 use Rattle.p9_lang.specs.Types.{TypeTree}
 use Rattle.p9_lang.specs.Layout.{size_of}
-use Rattle.p9_lang.specs.Form.{same_name, is_among, functions, IsFile}
-use Rattle.p9_lang.specs.Modules.{system_names, system_type}
-use Rattle.p9_form.specs.declared.file.Statement.{Statement}
+use Rattle.p9_lang.specs.Form.{is_among, IsFile}
+use Rattle.p9_lang.specs.Modules.{system_type}
 use Rattle.p9_form.specs.declared.file.First.{First}
 use Rattle.p9_form.specs.declared.file.First.TheVariants as first
 use Rattle.p9_form.specs.declared.file.Declaration.{Declaration}
 use Rattle.p9_form.specs.declared.file.File.{File}
 use Rattle.p9_form.specs.Items.{items_of, source_of}
-use Rattle.p9_form.specs.Sharing.{declarations}
 use Rattle.p9_share.specs.Symbols.{used_names}
-use Rattle.p9_share.proofs.Within.{Within, get_below}
-use Rattle.p9_cmean.specs.Joins.{Role, Declares, Uses, DefinesCode, DefinesData, DefinesCommon, Occurrence, Occurs, defines, is_object, may_meet, AgreeIfKnown, SameSize, Meet, IsMainCode, Join}
+use Rattle.p9_share.proofs.Within.{get_below}
+use Rattle.p9_cmean.specs.Joins.{Role, Declares, Uses, DefinesCode, DefinesData, DefinesCommon, Occurrence, Occurs, defines, may_meet, AgreeIfKnown, SameSize, Meet, IsMainCode, Join}
 use Rattle.p9_agree.proofs.Declared.{number_type, first_role, main_brief}
 use Rattle.p9_agree.proofs.Seen.{shown, variable_seen, IsMereRole, Seen, SeenSystem, SeenVariable, SeenMain, seen_of, variable_seen_there, main_seen_there}
-use Rattle.p9_agree.proofs.Fit.{defines_first, both_numbers, AreAlike, HasMainAt, HasDefinition, Fit, true_false, false_true, not_function}
+use Rattle.p9_agree.proofs.Fit.{AreAlike, HasDefinition, Fit, true_false}
 use Rattle.p9_agree.proofs.FromNames.{no_function}
-use Rattle.p9_agree.proofs.FromSources.{file_of, may_meet_is, mere_defines, defines_is}
-use Rattle.p9_agree.proofs.Sources.{sources, Owner, OfFile, OfSuite, owner_of, occurs_in_file, occurs_in_suite, OfTheSuite, UsesMain, HasCall, suite_of, call_there, call_name}
+use Rattle.p9_agree.proofs.FromSources.{file_of, may_meet_is, defines_is}
+use Rattle.p9_agree.proofs.Sources.{sources, Owner, OfFile, OfSuite, owner_of, occurs_in_file, occurs_in_suite, OfTheSuite, UsesMain, HasCall, suite_of, call_there, not_call, call_not_main, not_main}
 
 abbrev AreFiles : List File → Type 0
 AreFiles files = All (λ f. IsFile (items_of f)) files
@@ -58,16 +56,6 @@ variables_meet names others d e h =
     meets (variable_seen names d) (variable_seen others e)
     (may_meet_is d.first e.first (is_among names d.name) (is_among others e.name) ∙ ap not h.once)
     (ap (λ l. Some (number_type l)) h.length)
-
--- a name of a system call is neither a variable's nor `main`
-not_call : (x y : List ℕ) → Within system_names x → is_among functions y ≡ false → x ≡ y → ⊥
-not_call x y w h e = not_function y x h (call_name x w).0 (sym e)
-
-call_not_main : (x : List ℕ) → Within system_names x → x ≡ codes "main" → ⊥
-call_not_main x w e = true_false (sym (ap (λ y. same_name y (codes "main")) e) ∙ (call_name x w).1)
-
-not_main : (x : List ℕ) → is_among functions x ≡ false → x ≡ codes "main" → ⊥
-not_main x h e = not_function x (codes "main") h refl e
 
 system_type_same : (a b : Occurrence) → a.name ≡ b.name → a.type ≡ Some (system_type a.name) → b.type ≡ Some (system_type b.name) → a.type ≡ b.type
 system_type_same a b n t u = t ∙ ap (λ x. Some (system_type x)) n ∙ sym u

@@ -1,10 +1,10 @@
 -- The names that a module of the form uses are those in the statements of its `main`.
-use Rattle.std.proofs.Common.{◌≡◌, ℕ, ◌+◌, Bool, true, false, ◌||◌, List, [], ◌∷◌, ◌++◌, map, flat_map, Some, None, Option, refl, sym, ap, ◌∙◌, subst, append-nil, codes}
+use Rattle.std.proofs.Common.{◌≡◌, ℕ, ◌+◌, Bool, true, false, ◌||◌, List, [], ◌∷◌, ◌++◌, flat_map, Some, None, Option, refl, sym, ap, ◌∙◌, append-nil, codes}
 use Rattle.p9_lang.specs.declared.tree.Kind.TheVariants as kind
 use Rattle.p9_lang.specs.Types.{TypeTree, Void, Int, Long, Function, Outer}
 use Rattle.p9_lang.specs.Types as types
 use Rattle.p9_lang.specs.Trees.{none, SyntaxRow, nodes_of}
-use Rattle.p9_lang.specs.Form.{same_name, is_among, is_variable_name, IsFile}
+use Rattle.p9_lang.specs.Form.{is_among, is_variable_name, IsFile}
 use Rattle.p9_lang.specs.Typing.{Judged, Has, Scope, outer, named, texts_in, system_scope, scope_after}
 use Rattle.p9_lang.specs.Modules.{judged_meaning, use_at, uses_in, uses_in_row}
 use Rattle.p9_lang.proofs.Labels.{typed_expression, typed_statement, typed_statements, typed_item, typed_items, source_items}
@@ -18,10 +18,11 @@ use Rattle.p9_form.specs.declared.file.Declaration.{Declaration}
 use Rattle.p9_form.specs.declared.file.File.{File}
 use Rattle.p9_form.specs.Items.{operand_tree, sum_tree, statement_tree, statement_trees, statement_size, declaration_tree, declaration_trees, declaration_size, declarations_size, main_tree, main_trees, main_size, items_of, source_of}
 use Rattle.p9_form.specs.Sharing.{named_by, named_if, names_in, statements}
-use Rattle.p9_straight.proofs.SourceLists.{bool_cases, true_not, same_is}
 use Rattle.p9_straight.proofs.SourceRun.{FineOperand, FineIf, Fine, AreFine}
 use Rattle.p9_straight.proofs.SourceForm.{AreNew, names_behind, Among, MainIsFine, FileForm}
-use Rattle.p9_straight.proofs.SourceTyped.{GoodScope, AreVariableNames, other_name, system_good, declared_good, main_good}
+use Rattle.p9_share.proofs.Names.{among_append}
+use Rattle.p9_straight.proofs.SourceSymbols.{differs}
+use Rattle.p9_straight.proofs.SourceTyped.{GoodScope, AreVariableNames, system_good, declared_good, main_good}
 
 -- Expressions
 
@@ -144,20 +145,6 @@ file_uses file h f =
 
 unnamed : (x y : List ℕ) (names : List (List ℕ)) → is_variable_name x ≡ true → is_variable_name y ≡ false → is_among (y ∷ names) x ≡ is_among names x
 unnamed x y names v h = ap (λ b. b || is_among names x) (differs x y v h)
-  where
-    differs : (x y : List ℕ) → is_variable_name x ≡ true → is_variable_name y ≡ false → same_name x y ≡ false
-    differs x y v h =
-        bool_cases (same_name x y)
-        (λ e. true_not (is_variable_name x) v (subst (λ z. is_variable_name z ≡ false) (sym (same_is x y e)) h))
-        (λ e. e)
-
-among_append : (xs ys : List (List ℕ)) (x : List ℕ) → is_among (xs ++ ys) x ≡ (is_among xs x || is_among ys x)
-among_append [] ys x = refl
-among_append (y ∷ xs) ys x = ap (λ b. same_name x y || b) (among_append xs ys x) ∙ grouped (same_name x y) (is_among xs x) (is_among ys x)
-  where
-    grouped : (a b c : Bool) → (a || (b || c)) ≡ ((a || b) || c)
-    grouped true b c = refl
-    grouped false b c = refl
 
 one_same : (x : List ℕ) (s : Statement) → is_variable_name x ≡ true → is_among (uses_by s) x ≡ is_among (names_in s) x
 one_same x (Assign y left right) v = refl
