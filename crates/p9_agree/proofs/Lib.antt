@@ -1,0 +1,11 @@
+pub mod Uses
+pub mod Declared
+pub mod Seen
+pub mod Fit
+pub mod FromNames
+pub mod Sources
+pub mod FromSources
+pub mod ToSources
+pub mod Named
+pub mod ToNames
+pub mod Agreement

@@ -1,0 +1,7 @@
+//! What the joiner calls joining, by names, kinds, signatures and sizes, is what the meaning of C
+//! calls joining, by names, roles and types.
+#![tactic(auto)]
+
+mod laws;
+
+pub use laws::files_join_as_sources;
