@@ -9,3 +9,5 @@ pub mod ToSources
 pub mod Named
 pub mod ToNames
 pub mod Agreement
+pub mod Reached
+pub mod Weights
