@@ -11,3 +11,4 @@ pub mod ToNames
 pub mod Agreement
 pub mod Reached
 pub mod Weights
+pub mod Depth

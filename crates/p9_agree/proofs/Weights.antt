@@ -1,5 +1,5 @@
 -- How many nodes and calls `main` of a small file has, and so the room that it needs.
-use Rattle.std.proofs.Common.{◌≡◌, ◌≤◌, ℕ, ◌+◌, ◌*◌, Bool, true, false, if◌then◌else◌, List, [], ◌∷◌, ◌++◌, length, map, Some, None, Option, refl, sym, subst, arith}
+use Rattle.std.proofs.Common.{◌≡◌, ◌≤◌, ℕ, suc, ◌+◌, ◌*◌, Bool, true, false, if◌then◌else◌, List, [], ◌∷◌, ◌++◌, length, map, Some, None, Option, refl, sym, subst, arith}
 use Rattle.std.specs.Prelude.{codes, filter}
 use Rattle.p9_lang.specs.Trees.{none, SyntaxRow, nodes_of, nodes_of_row}
 use Rattle.p9_lang.specs.Form.{same_name, is_among, IsFile}
@@ -116,3 +116,81 @@ tentative_light d ds used DeclaredOnly e h = rw e tt
 tentative_light d ds used Used e h = rw e tt
 tentative_light d ds used Common e h = rw e tt
 
+way_light : (d : Declared) (ds : List Declared) (used : Bool) (w : Way) → IsLightWay w → IsLightKind (kind_of ds used) → IsLightKind (kind_of (record d { way = w } ∷ ds) used)
+way_light d ds used Only h g = g
+way_light d ds used Tentative h g = tentative_light d ds used (kind_of ds used) refl g
+way_light d ds used (Initial value) h g = tt
+way_light d ds used (Body item) h g = h
+
+kind_light : (ds : List Declared) (used : Bool) → AreLight ds → IsLightKind (kind_of ds used)
+kind_light [] true h = tt
+kind_light [] false h = tt
+kind_light (d ∷ ds) used h = way_light d ds used d.way h.0 (kind_light ds used h.1)
+
+abbrev IsLightSymbol : Symbol → Type 0
+IsLightSymbol s = IsLightKind s.kind
+
+with_name : (x : List ℕ) (ds : List Declared) → AreLight ds → AreLight (declarations_of x ds)
+with_name x [] h = tt
+with_name x (d ∷ ds) h =
+    bool_cases (same_name x d.name)
+    (λ e. subst (λ b. AreLight (if b then d ∷ declarations_of x ds else declarations_of x ds)) (sym e) (h.0, with_name x ds h.1))
+    (λ e. subst (λ b. AreLight (if b then d ∷ declarations_of x ds else declarations_of x ds)) (sym e) (with_name x ds h.1))
+
+names_light : (source : Source) (names : List (List ℕ)) → AreLight (declared_by source.items) → Each IsLightSymbol (map (symbol_of source) names)
+names_light source [] h = tt
+names_light source (x ∷ names) h =
+    (kind_light (declarations_of x (declared_by source.items)) (is_among (uses_in_row source.items) x) (with_name x (declared_by source.items) h), names_light source names h)
+
+texts_light : (texts : List TextObject) → Each IsLightSymbol (map text_symbol texts)
+texts_light [] = tt
+texts_light (t ∷ ts) = (tt, texts_light ts)
+
+symbols_light : (source : Source) → AreLight (declared_by source.items) → Each IsLightSymbol (symbols source)
+symbols_light source h =
+    each_append IsLightSymbol (map (symbol_of source) (symbol_names source)) (map text_symbol (texts_of_row source.items))
+    (names_light source (symbol_names source) h) (texts_light (texts_of_row source.items))
+
+-- The code that is found
+
+abbrev IsLightCode : Option Defined → Type 0
+IsLightCode None = Unit {0}
+IsLightCode (Some code) = IsLight code.item
+
+either_light : (b : Bool) (x y : Option Defined) → IsLightCode x → IsLightCode y → IsLightCode (if b then x else y)
+either_light true x y h g = h
+either_light false x y h g = g
+
+abbrev an_entry : ℕ → Symbol → SymbolKind → Entry
+an_entry i s k = record { owner = i; symbol = record s { kind = k } }
+
+code_light : (p : Entry → Bool) (i : ℕ) (s : Symbol) (k : SymbolKind) (es : List Entry) → IsLightKind k → IsLightCode (first_code p es) → IsLightCode (first_code p (an_entry i s k ∷ es))
+code_light p i s DeclaredOnly es h g = either_light (p (an_entry i s DeclaredOnly)) (first_code p es) (first_code p es) g g
+code_light p i s Used es h g = either_light (p (an_entry i s Used)) (first_code p es) (first_code p es) g g
+code_light p i s (Code item) es h g = either_light (p (an_entry i s (Code item))) (Some (record { owner = i; item = item })) (first_code p es) h g
+code_light p i s (Data value) es h g = either_light (p (an_entry i s (Data value))) (first_code p es) (first_code p es) g g
+code_light p i s (TextData number bytes) es h g = either_light (p (an_entry i s (TextData number bytes))) (first_code p es) (first_code p es) g g
+code_light p i s Common es h g = either_light (p (an_entry i s Common)) (first_code p es) (first_code p es) g g
+
+symbols_found : (p : Entry → Bool) (i : ℕ) (ss : List Symbol) (es : List Entry) → Each IsLightSymbol ss → IsLightCode (first_code p es)
+    → IsLightCode (first_code p (map (λ s. record { owner = i; symbol = s }) ss ++ es))
+symbols_found p i [] es h g = g
+symbols_found p i (s ∷ ss) es h g =
+    code_light p i s s.kind (map (λ s. record { owner = i; symbol = s }) ss ++ es) h.0 (symbols_found p i ss es h.1 g)
+
+files_light : (p : Entry → Bool) (i : ℕ) (files : List File) → Each (λ f. IsFile (items_of f)) files → Each IsSmall files
+    → IsLightCode (first_code p (entries_from i (map source_of files)))
+files_light p i [] h small = tt
+files_light p i (f ∷ fs) h small =
+    symbols_found p i (symbols (source_of f)) (entries_from (suc i) (map source_of fs))
+    (symbols_light (source_of f) (file_light f h.0 small.0))
+    (files_light p (suc i) fs h.1 small.1)
+
+code_need : (code : Option Defined) → IsLightCode code → need_of code ≤ 4194368
+code_need None h = omega arith
+code_need (Some code) h = omega (arith, h)
+
+-- each function of small files needs at most this
+pub functions_need : (p : Entry → Bool) (files : List File) → Each (λ f. IsFile (items_of f)) files → Each IsSmall files
+    → need_of (first_code p (entries_from 0 (map source_of files))) ≤ 4194368
+functions_need p files h small = code_need (first_code p (entries_from 0 (map source_of files))) (files_light p 0 files h small)

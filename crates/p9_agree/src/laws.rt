@@ -1,7 +1,18 @@
-// The law of the definitions in `specs/`: a function that does nothing, whose contract is the law.
+// Laws of the definitions in `specs/`: functions that do nothing, whose contracts are the laws.
 ghost use Rattle.p9_agree.specs.Agreement.{FilesJoinAsSources};
+ghost use Rattle.p9_agree.specs.Depth.{FormIsNeverDeep, FormComes};
 
 /// Files of the form join by name exactly where their C modules join.
 pub fn files_join_as_sources()
     ensures { FilesJoinAsSources }
+{}
+
+/// Small files of the form that are joined have room for all their calls, whatever they read.
+pub fn form_is_never_deep()
+    ensures { FormIsNeverDeep }
+{}
+
+/// Their run comes to what the statements of `main` come to by the values of variables alone.
+pub fn form_comes()
+    ensures { FormComes }
 {}
