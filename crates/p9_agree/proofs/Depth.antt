@@ -1,6 +1,6 @@
 -- The run of small files of the form that are joined has room for its calls: it comes to what `main`'s
 -- statements come to by values alone.
-use Rattle.std.proofs.Common.{◌≡◌, ◌≤◌, ℕ, zero, suc, ◌+◌, true, false, ◌||◌, if◌then◌else◌, nat_lt, List, [], ◌∷◌, ◌++◌, length, map, All, Some, None, Option, refl, sym, ap, ◌∙◌, subst, arith, length-append, append_assoc}
+use Rattle.std.proofs.Common.{◌≡◌, ◌≤◌, ℕ, zero, suc, ◌+◌, true, false, ◌||◌, if◌then◌else◌, nat_lt, List, [], ◌∷◌, ◌++◌, length, map, Some, None, Option, refl, sym, ap, ◌∙◌, subst, arith, length-append, append_assoc}
 use Rattle.std.proofs.lemmas.Bool.Decides.{nat_tests}
 use Rattle.std.specs.Prelude.{codes, flat_map, slice_get, Contains}
 use Rattle.std.specs.List.{list_any}
@@ -22,7 +22,7 @@ use Rattle.p9_cmean.specs.CRun.{surroundings, body_of, function_need, functions_
 use Rattle.p9_cmean.proofs.Runs.{source_run_is}
 use Rattle.p9_straight.specs.Code.{main_of, first_of}
 use Rattle.p9_straight.proofs.FormRun.{Came, initial_of, statements_run, form_run}
-use Rattle.p9_straight.proofs.SourceLists.{Each, each_both, each_from_all, each_left, each_right, first_true, or_true, bool_cases, any_either, any_map, any_contained, each_weaker}
+use Rattle.p9_straight.proofs.SourceLists.{Each, each_both, each_from_all, each_left, each_right, first_true, or_true, any_either, any_map, any_contained, each_weaker}
 use Rattle.p9_straight.proofs.SourceRun.{Setting, Shows, FineOperand, FineIf, Fine, AreFine, text_count, HasText, HaveTexts}
 use Rattle.p9_straight.proofs.SourceForm.{Among}
 use Rattle.p9_straight.proofs.SourceTyped.{each_among, texts_by, text_list}

@@ -4,7 +4,7 @@ use Rattle.std.proofs.Common.{◌≡◌, ◌≢◌, ◌<◌, ◌≤◌, ℕ, zer
 use Rattle.std.proofs.lemmas.Bool.Decides.{nat_tests}
 use Rattle.std.specs.Prelude.{slice_get, slice_set, codes}
 use Rattle.p9_base.specs.Words.{word_sum, is_negative}
-use Rattle.p9_lang.specs.Types.{TypeTree, Int, Long, Char, Array, Outer, Static}
+use Rattle.p9_lang.specs.Types.{TypeTree, Int, Long, Char, Array, Static}
 use Rattle.p9_lang.specs.Trees.{node, Syntax, nodes_of, nodes_of_row}
 use Rattle.p9_lang.specs.Form.{same_name}
 use Rattle.p9_lang.specs.Typing.{Has, Scope, named, texts_in, judged, typeless, exits_type, transfer_type}
@@ -206,9 +206,6 @@ module _ (modules : List Source) (around : Surroundings) (scope : Scope) (K : Li
 
   abbrev asked : List ℕ → List Value → Place → Call
   asked function arguments place = record { function = Global function; arguments = arguments; place = place }
-
-  abbrev Comes : (d active n c turns : ℕ) (call : Place) → TypedRow → State → Came → Type 0
-  Comes d active n c turns call rows s came = Reaches (outcome_of (rest_of d active n c turns call rows s)) came
 
   fails_or : (b : Bool) (next other : Came) (o : Outcome) → b ≡ true → Reaches o next → Reaches o (if b then next else other)
   fails_or b next other o e h = subst (λ b. Reaches o (if b then next else other)) (sym e) h

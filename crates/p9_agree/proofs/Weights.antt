@@ -1,6 +1,5 @@
 -- How many nodes and calls `main` of a small file has, and so the room that it needs.
 use Rattle.std.proofs.Common.{◌≡◌, ◌≤◌, ℕ, suc, ◌+◌, ◌*◌, Bool, true, false, if◌then◌else◌, List, [], ◌∷◌, ◌++◌, length, map, Some, None, Option, refl, sym, subst, arith}
-use Rattle.std.specs.Prelude.{codes, filter}
 use Rattle.p9_lang.specs.Trees.{none, SyntaxRow, nodes_of, nodes_of_row}
 use Rattle.p9_lang.specs.Form.{same_name, is_among, IsFile}
 use Rattle.p9_lang.specs.Typing.{Scope, texts_in, system_scope, scope_after}
@@ -16,8 +15,8 @@ use Rattle.p9_form.specs.declared.file.Declaration.{Declaration}
 use Rattle.p9_form.specs.declared.file.File.{File}
 use Rattle.p9_form.specs.Items.{operand_tree, sum_tree, statement_tree, statement_trees, statement_size, declaration_tree, declaration_trees, declaration_size, declarations_size, main_tree, main_trees, main_size, items_of, source_of}
 use Rattle.p9_form.specs.Sharing.{statements, IsSmall}
-use Rattle.p9_cmean.specs.Union.{Entry, Defined, entries_from, first_code, calls_in, calls_in_row, weighed_nodes, need_of}
-use Rattle.p9_straight.proofs.SourceLists.{Each, each_append, each_map, bool_cases}
+use Rattle.p9_cmean.specs.Union.{Entry, Defined, entries_from, first_code, calls_in_row, weighed_nodes, need_of}
+use Rattle.p9_straight.proofs.SourceLists.{Each, each_append, bool_cases}
 
 -- Statements
 
@@ -50,7 +49,7 @@ statements_nodes scope k n a (s ∷ ss) =
 
 -- the weight of `main` of a small file is at most this
 abbrev IsLight : Typed → Type 0
-IsLight item = weighed_nodes item ≤ 524288
+IsLight item = weighed_nodes item ≤ 458756
 
 abbrev IsLightWay : Way → Type 0
 IsLightWay (Body item) = IsLight item
@@ -186,11 +185,11 @@ files_light p i (f ∷ fs) h small =
     (symbols_light (source_of f) (file_light f h.0 small.0))
     (files_light p (suc i) fs h.1 small.1)
 
-code_need : (code : Option Defined) → IsLightCode code → need_of code ≤ 4194368
+code_need : (code : Option Defined) → IsLightCode code → need_of code ≤ 3670112
 code_need None h = omega arith
 code_need (Some code) h = omega (arith, h)
 
 -- each function of small files needs at most this
 pub functions_need : (p : Entry → Bool) (files : List File) → Each (λ f. IsFile (items_of f)) files → Each IsSmall files
-    → need_of (first_code p (entries_from 0 (map source_of files))) ≤ 4194368
+    → need_of (first_code p (entries_from 0 (map source_of files))) ≤ 3670112
 functions_need p files h small = code_need (first_code p (entries_from 0 (map source_of files))) (files_light p 0 files h small)

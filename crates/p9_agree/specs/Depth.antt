@@ -30,7 +30,7 @@ Reaches (Undefined output why place) Fails = Unit {0}
 Reaches _ _ = ⊥
 
 -- So their run is just what `main`'s statements come to by the values of variables alone: it does
--- something undefined only where one of them writes more than its text.
+-- something undefined exactly where one of them writes past its text's zero byte.
 abbrev pub FormComes : Type 0
 FormComes =
     (files : List File) (input : List ℕ) (turns : ℕ) →

@@ -1,5 +1,5 @@
 //! What the joiner calls joining, by names, kinds, signatures and sizes, is what the meaning of C
-//! calls joining, by names, roles and types.
+//! calls joining, by names, roles and types. And a run of such files is never too deep.
 #![tactic(auto)]
 
 mod laws;
