@@ -27,7 +27,7 @@ use Rattle.p9_cmean.specs.CRun.{functions_of, outcome_of}
 use Rattle.p9_cmean.proofs.Variables.{Holds, IsVariableType}
 use Rattle.p9_cmean.proofs.FormPlays.{StandsFor, Calls, IsTextAt, variable_value, sum_value as sum_plays, assign_play, write_play, exits_play, exits_zero_play, asks}
 use Rattle.p9_cmean.proofs.FormCalls.{text_object, written_text, written_past, exits_text, write_ends, exits_ends}
-use Rattle.p9_straight.proofs.FormRun.{Values, Came, Ends, RunsOut, Fails, operand_value, sum_value, assigned, after_write, statements_run}
+use Rattle.p9_straight.specs.FormRun.{Values, Came, Ends, RunsOut, Fails, operand_value, sum_value, assigned, after_write, statements_run}
 use Rattle.p9_straight.proofs.SourceRun.{Setting, Shows, FineOperand, FineIf, Fine, AreFine, HasText, HaveTexts, statement_texts}
 use Rattle.p9_agree.specs.Depth.{Reaches}
 use Rattle.p9_straight.proofs.SourceLists.{bool_cases, same_is, same_self, get_set_same, get_set_other}

@@ -6,7 +6,7 @@ use Rattle.p9_form.specs.Items.{items_of, source_of}
 use Rattle.p9_form.specs.Sharing.{IsSmall, AreJoined}
 use Rattle.p9_cmean.specs.Turns.{Outcome, Ended, Out, Undefined, Deep}
 use Rattle.p9_cmean.specs.CRun.{source_run}
-use Rattle.p9_straight.proofs.FormRun.{Came, Ends, RunsOut, Fails, form_run}
+use Rattle.p9_straight.specs.FormRun.{Came, Ends, RunsOut, Fails, form_run}
 
 -- each call of a run has had its room
 abbrev pub IsNotDeep : Outcome → Type 0

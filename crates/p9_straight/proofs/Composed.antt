@@ -19,7 +19,7 @@ use Rattle.p9_form.specs.Sharing.{names_in, initials, defined_names, AreJoined, 
 use Rattle.p9_straight.specs.Layout.{init_bytes, bss_size, texts_at, end_at}
 use Rattle.p9_straight.specs.Code.{main_code, data_start, place_in, main_of, code_of, parts_for}
 use Rattle.p9_straight.specs.Headline.{KeepsMeaning, IsDefined, budget, EndsInTime}
-use Rattle.p9_straight.proofs.FormRun.{Values, Came, Ends, RunsOut, Fails, operand_value, after_write, statements_run, initial_of, form_run, ComesTo}
+use Rattle.p9_straight.specs.FormRun.{Values, Came, Ends, RunsOut, Fails, operand_value, after_write, statements_run, initial_of, form_run, ComesTo}
 use Rattle.p9_straight.proofs.Placed.{AreVariables, AreTexts}
 use Rattle.p9_straight.proofs.LaidOut.{variables_laid}
 use Rattle.p9_straight.proofs.TextsLaid.{texts_laid}

@@ -20,7 +20,7 @@ use Rattle.p9_form.proofs.Formed.{FitsOperand, FitsIf, FitsStatement, FitStateme
 use Rattle.p9_straight.specs.Layout.{text_in, variables_of, data_of, data_objects, init_bytes, commons, bss_size, end_text}
 use Rattle.p9_straight.specs.Layout as layout
 use Rattle.p9_straight.specs.Code.{statement_code, text_after, statements_code, main_code, code_size, code_bytes, first_of, main_of}
-use Rattle.p9_straight.proofs.FormRun.{initial_of}
+use Rattle.p9_straight.specs.FormRun.{initial_of}
 use Rattle.p9_straight.proofs.Positions.{bytes_of, bytes_size, padded_size, AreWords, tail_words, head_word}
 use Rattle.p9_straight.proofs.MachineText.{code_size as bytes_in_code}
 use Rattle.p9_straight.proofs.MachineTurns.{IsFitOperand, IsFitIf, IsFit, AreFit}

@@ -9,7 +9,7 @@ use Rattle.p9_form.specs.declared.file.File.{File}
 use Rattle.p9_form.specs.Sharing.{statements, Initial, initials, tentatives, defined_names}
 use Rattle.p9_straight.specs.Layout.{Datum, Variable, Text, end_text, text_in, datum_bytes, variable_in, common_in, or_else, variables_of, data_of, data_objects, init_bytes, commons, bss_size, address_of}
 use Rattle.p9_straight.specs.Code.{data_start, place_in}
-use Rattle.p9_straight.proofs.FormRun.{initial_of}
+use Rattle.p9_straight.specs.FormRun.{initial_of}
 use Rattle.p9_straight.proofs.Placed.{AreVariables}
 use Rattle.p9_straight.proofs.Positions.{same_is, same_self, none_not, bytes_words, variables, AreWords, variable_from, variable_within, variable_aligned, variable_first, variable_apart, common_from, common_within, common_aligned, common_apart, word_behind}
 

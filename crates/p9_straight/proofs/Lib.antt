@@ -1,4 +1,3 @@
-pub mod FormRun
 pub mod Placed
 pub mod BuildLists
 pub mod BuildCode

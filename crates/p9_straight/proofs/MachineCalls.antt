@@ -15,7 +15,7 @@ use Rattle.p9_r3k.specs.Memory.{Core, text_start, stack_start, stack_end, readab
 use Rattle.p9_r3k.specs.Machine.{State, run, argument, then_one, exits_of, asked_exits, asked, called, exit_text}
 use Rattle.p9_r3k.proofs.Begins.{below_stack}
 use Rattle.p9_straight.specs.Code.{set_register, system_call, exit_code}
-use Rattle.p9_straight.proofs.FormRun.{Values}
+use Rattle.p9_straight.specs.FormRun.{Values}
 use Rattle.p9_straight.proofs.Placed.{IsTextAt}
 use Rattle.p9_straight.proofs.MachineSteps.{Fixed, standing, Room, data_readable, stack_readable, step_addiu, step_sw_stack, step_call}
 use Rattle.p9_straight.proofs.MachineBytes.{word_stored}

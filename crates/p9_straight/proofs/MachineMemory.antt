@@ -12,7 +12,7 @@ use Rattle.p9_r3k.specs.Machine.{State, run}
 use Rattle.p9_form.specs.declared.file.Operand.{Operand}
 use Rattle.p9_form.specs.declared.file.Operand.TheVariants.{Variable, Number}
 use Rattle.p9_straight.specs.Code.{set_register, load_operand, store_code, nothing}
-use Rattle.p9_straight.proofs.FormRun.{Values, operand_value, assigned}
+use Rattle.p9_straight.specs.FormRun.{Values, operand_value, assigned}
 use Rattle.p9_straight.proofs.Placed.{IsTextAt}
 use Rattle.p9_straight.proofs.MachineSteps.{Fixed, standing, Room, step_nothing, step_lw, step_sw}
 use Rattle.p9_straight.proofs.MachineBytes.{length-four, word_stored, word_apart, take_before, part_stays, AreApart}

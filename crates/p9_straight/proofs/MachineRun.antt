@@ -11,7 +11,7 @@ use Rattle.p9_form.specs.declared.file.Statement.{Statement}
 use Rattle.p9_form.specs.declared.file.File.{File}
 use Rattle.p9_form.specs.Sharing.{names_in, initials}
 use Rattle.p9_straight.specs.Code.{statements_code, main_code, code_bytes, main_of}
-use Rattle.p9_straight.proofs.FormRun.{Values, Came, RunsOut, statements_run, initial_of, form_run}
+use Rattle.p9_straight.specs.FormRun.{Values, Came, RunsOut, statements_run, initial_of, form_run}
 use Rattle.p9_straight.proofs.Placed.{AreVariables, AreTexts}
 use Rattle.p9_straight.proofs.MachineSteps.{Fixed, standing, Room, step_addiu}
 use Rattle.p9_straight.proofs.MachineCode.{Follows, ran_none, ran_then, registers}

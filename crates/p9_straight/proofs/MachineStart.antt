@@ -8,7 +8,7 @@ use Rattle.p9_base.specs.Numbers.{word_at}
 use Rattle.p9_r3k.specs.Memory.{text_start}
 use Rattle.p9_r3k.specs.Start.{zeros, page_from, low_bytes}
 use Rattle.p9_r3k.proofs.Begins.{length-zeros, page_from-above, page_from-near, length-low_bytes}
-use Rattle.p9_straight.proofs.FormRun.{Values}
+use Rattle.p9_straight.specs.FormRun.{Values}
 use Rattle.p9_straight.proofs.Placed.{AreVariables}
 use Rattle.p9_straight.proofs.MachineSteps.{Fixed, Room}
 use Rattle.p9_straight.proofs.MachineMemory.{Memory}

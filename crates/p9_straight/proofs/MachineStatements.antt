@@ -13,7 +13,7 @@ use Rattle.p9_form.specs.declared.file.Statement.TheVariants.{Assign, Write, Exi
 use Rattle.p9_form.specs.Sharing.{named_by, named_if, names_in}
 use Rattle.p9_straight.specs.Layout.{end_text}
 use Rattle.p9_straight.specs.Code.{load_operand, store_code, exit_code, statement_code, text_after, statements_code}
-use Rattle.p9_straight.proofs.FormRun.{Values, Came, Ends, Fails, operand_value, sum_value, assigned, after_write, statements_run}
+use Rattle.p9_straight.specs.FormRun.{Values, Came, Ends, Fails, operand_value, sum_value, assigned, after_write, statements_run}
 use Rattle.p9_straight.proofs.Placed.{IsTextAt, AreTexts}
 use Rattle.p9_straight.proofs.MachineSteps.{Fixed, standing, step_addu}
 use Rattle.p9_straight.proofs.MachineCode.{Follows, behind, follows_first, follows_then, ran_then, ran_both, registers}

@@ -15,7 +15,7 @@ use Rattle.p9_form.specs.declared.file.Operand.TheVariants.{Variable, Number}
 use Rattle.p9_form.specs.declared.file.Statement.{Statement}
 use Rattle.p9_form.specs.declared.file.Statement.TheVariants.{Assign, Write, Exits}
 use Rattle.p9_form.specs.Sharing.{named_by}
-use Rattle.p9_straight.proofs.FormRun.{Came, Ends, RunsOut, Fails}
+use Rattle.p9_straight.specs.FormRun.{Came, Ends, RunsOut, Fails}
 use Rattle.p9_straight.proofs.MachineMemory.{IsKnown}
 
 -- within a limit of steps the machine comes to the same: to the exit, or, where turns are out, to a place where

@@ -7,7 +7,7 @@ use Rattle.p9_form.specs.declared.file.Statement.{Statement}
 use Rattle.p9_form.specs.declared.file.Statement.TheVariants.{Assign, Write, Exits}
 use Rattle.p9_straight.specs.Layout.{end_text}
 use Rattle.p9_straight.specs.Code.{text_after}
-use Rattle.p9_straight.proofs.FormRun.{Values}
+use Rattle.p9_straight.specs.FormRun.{Values}
 
 -- variables with these names lie in data that begin here, each in a word of its own, with its first value
 pub record AreVariables (place : List ℕ → ℕ) (names : List (List ℕ)) (begin : ℕ) (init : List ℕ) (bss : ℕ) (values : Values) : Type 0 where

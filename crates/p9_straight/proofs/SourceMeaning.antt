@@ -19,7 +19,7 @@ use Rattle.p9_cmean.specs.Statements.{item_body}
 use Rattle.p9_cmean.specs.CRun.{surroundings, body_of, function_need, functions_of, main_name, main_call, first_state, run_of, outcome_of, source_run}
 use Rattle.p9_cmean.proofs.Runs.{source_run_is}
 use Rattle.p9_straight.specs.Code.{main_of, first_of}
-use Rattle.p9_straight.proofs.FormRun.{Came, ComesTo, initial_of, statements_run, form_run}
+use Rattle.p9_straight.specs.FormRun.{Came, ComesTo, initial_of, statements_run, form_run}
 use Rattle.p9_straight.proofs.SourceLists.{Each, each_both, each_from_all, each_left, each_right, first_true, or_true, bool_cases, any_either, any_map, any_contained, each_weaker}
 use Rattle.p9_straight.proofs.SourceRun.{Setting, Shows, FineOperand, FineIf, Fine, AreFine, text_count, HasText, HaveTexts, run_comes}
 use Rattle.p9_straight.proofs.SourceForm.{Among}

@@ -11,7 +11,7 @@ use Rattle.p9_cmean.specs.Union.{Entry, entries, is_shared_data, is_shared_commo
 use Rattle.p9_cmean.proofs.Variables.{Holds}
 use Rattle.p9_cmean.proofs.FormCalls.{text_object}
 use Rattle.p9_cmean.proofs.FormObjects.{FoundAt, number_found, object_of, object_at}
-use Rattle.p9_straight.proofs.FormRun.{initial_of}
+use Rattle.p9_straight.specs.FormRun.{initial_of}
 use Rattle.p9_straight.proofs.SourceLists.{both_left, both_right, not_true, true_not, neither, neither_left, or_true, first_true, or_cases, bool_cases, eq_of, same_is, Each, each_weaker, each_at, any_weaker, none_passes, number_some}
 use Rattle.p9_straight.proofs.SourceEntries.{Dotted, SoundKind, Sound}
 use Rattle.p9_straight.proofs.SourceUnion.{no_value}

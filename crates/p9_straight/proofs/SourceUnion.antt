@@ -12,7 +12,7 @@ use Rattle.p9_form.specs.declared.file.File.{File}
 use Rattle.p9_form.specs.Items.{items_of, source_of}
 use Rattle.p9_form.specs.Sharing.{declarations, Initial, initial_in, initials, tentative_in, tentatives, main_in, mains}
 use Rattle.p9_cmean.specs.Union.{Entry, entries_from, is_shared_data, is_shared_common, is_text_of, first_code}
-use Rattle.p9_straight.proofs.FormRun.{initial_of}
+use Rattle.p9_straight.specs.FormRun.{initial_of}
 use Rattle.p9_straight.proofs.SourceLists.{Each, each_append, each_left, each_right, any_left, any_right, any_either, same_self, not_same, flat_append, neither_left, neither_right}
 use Rattle.p9_straight.proofs.SourceForm.{IsBounded, AreNew, names_behind, file_form}
 use Rattle.p9_straight.proofs.SourceTyped.{MainItem, text_list, source_is}
