@@ -14,3 +14,4 @@ pub mod Settled
 pub mod Adding
 pub mod Justifying
 pub mod Added
+pub mod Schedulable

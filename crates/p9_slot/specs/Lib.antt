@@ -3,3 +3,4 @@ pub mod Runs
 pub mod Blocks
 pub mod Justified
 pub mod Placing
+pub mod Aimed

@@ -7,3 +7,6 @@ mod placing;
 mod scheduling;
 
 pub use scheduling::{Scheduled, schedule};
+
+#[cfg(test)]
+mod tests;
