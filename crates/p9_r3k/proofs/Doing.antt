@@ -1,13 +1,11 @@
 -- Which effects each instruction may have.
-use Rattle.std.proofs.Common.{ℕ, ◌==◌, ◌&&◌, ◌≡◌, ◌⊎◌, inl, inr, Bool, true, false, refl, if◌then◌else◌, nat_le}
-use Rattle.p9_base.specs.declared.halt.HaltCause.{HaltCause}
+use Rattle.std.proofs.Common.{◌&&◌, ◌≡◌, inl, inr, Bool, true, false, refl, if◌then◌else◌}
 use Rattle.p9_base.specs.declared.halt.Effect.{Effect}
-use Rattle.p9_base.specs.declared.halt.Effect.TheVariants as effects
 use Rattle.p9_r3k.specs.declared.inst.Inst.{Inst}
 use Rattle.p9_r3k.specs.declared.inst.Inst.TheVariants.{J, Jal, Beq, Bne, Blez, Bgtz, Bltz, Bgez, Bltzal, Bgezal, Addi, Addiu, Slti, Sltiu, Andi, Ori, Xori, Lui, Lb, Lh, Lw, Lbu, Lhu, Sb, Sh, Sw, Sll, Srl, Sra, Sllv, Srlv, Srav, Jr, Jalr, Syscall, Break, Mfhi, Mthi, Mflo, Mtlo, Mult, Multu, Div, Divu, Add, Addu, Sub, Subu, And, Or, Xor, Nor, Slt, Sltu}
 use Rattle.p9_base.specs.Core.{Core}
-use Rattle.p9_r3k.specs.Effects.{effect_of, reads_pair, writes_pair, branches}
-use Rattle.p9_r3k.specs.Uses.{loads, links, delays}
+use Rattle.p9_r3k.specs.Effects.{effect_of, reads_pair, writes_pair}
+use Rattle.p9_r3k.specs.Uses.{links, delays}
 use Rattle.p9_r3k.specs.UseLaws.{MayDo}
 
 pub may_choose : (i : Inst) (b : Bool) (x y : Effect) → MayDo i x → MayDo i y → MayDo i (if b then x else y)
