@@ -4,7 +4,7 @@ use Rattle.std.specs.Prelude.{slice_get}
 use Rattle.p9_abs.specs.declared.modules.Symbol.{Symbol}
 use Rattle.p9_abs.specs.declared.modules.Body.TheVariants.{Used}
 use Rattle.p9_abs.specs.Modules.{size_of, is_definition}
-use Rattle.p9_lang.specs.Form.{same_name, is_among, functions, IsFile}
+use Rattle.p9_first.specs.Form.{same_name, is_among, functions, IsFile}
 use Rattle.p9_form.specs.declared.file.Statement.{Statement}
 use Rattle.p9_form.specs.declared.file.First.{First}
 use Rattle.p9_form.specs.declared.file.First.TheVariants as first

@@ -4,8 +4,8 @@ use Rattle.std.specs.Prelude.{slice_get}
 use Rattle.std.specs.List.{list_any}
 use Rattle.p9_abs.specs.declared.modules.Symbol.{Symbol}
 use Rattle.p9_abs.specs.declared.modules.Body.TheVariants.{Used}
-use Rattle.p9_lang.specs.Form.{same_name}
-use Rattle.p9_lang.specs.Modules.{system_names}
+use Rattle.p9_first.specs.Form.{same_name}
+use Rattle.p9_first.specs.Modules.{system_names}
 use Rattle.p9_form.specs.declared.file.Statement.{Statement}
 use Rattle.p9_form.specs.declared.file.Declaration.{Declaration}
 use Rattle.p9_form.specs.declared.file.File.{File}

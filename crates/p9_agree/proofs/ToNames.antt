@@ -7,8 +7,8 @@ use Rattle.p9_abs.specs.declared.modules.Symbol.{Symbol}
 use Rattle.p9_abs.specs.declared.modules.Body.{Body}
 use Rattle.p9_abs.specs.declared.modules.Body.TheVariants.{Declared, Used, Text, Data, Common}
 use Rattle.p9_abs.specs.Modules.{size_of, is_definition}
-use Rattle.p9_lang.specs.Form.{same_name, is_among, IsFile}
-use Rattle.p9_lang.specs.Modules.{system_names}
+use Rattle.p9_first.specs.Form.{same_name, is_among, IsFile}
+use Rattle.p9_first.specs.Modules.{system_names}
 use Rattle.p9_form.specs.declared.file.Statement.{Statement}
 use Rattle.p9_form.specs.declared.file.First.{First}
 use Rattle.p9_form.specs.declared.file.First.TheVariants as first

@@ -7,7 +7,7 @@ use Rattle.p9_abs.specs.declared.modules.DataPiece.TheVariants.{Raw}
 use Rattle.p9_abs.specs.declared.modules.Body.TheVariants.{Used, Data}
 use Rattle.p9_abs.specs.Modules.{is_definition}
 use Rattle.p9_base.specs.Numbers.{word_bytes}
-use Rattle.p9_lang.specs.Form.{same_name, is_among, functions, IsFile}
+use Rattle.p9_first.specs.Form.{same_name, is_among, functions, IsFile}
 use Rattle.p9_form.specs.declared.file.Statement.{Statement}
 use Rattle.p9_form.specs.declared.file.First.{First}
 use Rattle.p9_form.specs.declared.file.First.TheVariants as first

@@ -1,6 +1,6 @@
 // Joining files.
 ghost use Rattle.std.specs.Prelude.{◌≡◌, ◌≢◌, ◌≤◌, ◌⊎◌, ◌∷◌, [], length, map, All, IfOk, IfErr, IsOk, Err};
-ghost use Rattle.p9_lang.specs.Form.{IsFile};
+ghost use Rattle.p9_first.specs.Form.{IsFile};
 ghost use Rattle.p9_form.specs.Items.{items_of};
 ghost use Rattle.p9_form.specs.Sharing.{AreJoined, IsSmall};
 ghost use Rattle.p9_names.specs.Answers.{linked, Joins, IsRefusal};
