@@ -9,8 +9,8 @@ use Rattle.std.proofs.lemmas.Grind.{common_steps}
 use Rattle.std.proofs.Math.Seq.{take-length}
 use Rattle.p9_r3k.specs.declared.inst.Inst.{Inst}
 use Rattle.p9_r3k.specs.declared.inst.Inst.TheVariants.{Addiu, Sw, Syscall}
-use Rattle.p9_r3k.specs.declared.halt.Asked.{Asked}
-use Rattle.p9_r3k.specs.declared.halt.Asked.TheVariants as asks
+use Rattle.p9_base.specs.declared.halt.Asked.{Asked}
+use Rattle.p9_base.specs.declared.halt.Asked.TheVariants as asks
 use Rattle.p9_r3k.specs.Memory.{Core, text_start, stack_start, stack_end, readable, read_word, word_in, with_word_in, bytes_from}
 use Rattle.p9_r3k.specs.Machine.{State, run, argument, then_one, exits_of, asked_exits, asked, called, exit_text}
 use Rattle.p9_r3k.proofs.Begins.{below_stack}

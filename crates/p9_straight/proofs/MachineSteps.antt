@@ -7,11 +7,11 @@ use Rattle.p9_base.specs.Words.{word_sum, shift_left}
 use Rattle.p9_base.specs.Numbers.{word_at, sign_extended}
 use Rattle.p9_r3k.specs.declared.inst.Inst.{Inst}
 use Rattle.p9_r3k.specs.declared.inst.Inst.TheVariants.{Addiu, Lui, Ori, Lw, Sw, Sll, Addu, Syscall}
-use Rattle.p9_r3k.specs.declared.halt.Ending.TheVariants.{Running}
-use Rattle.p9_r3k.specs.declared.halt.Effect.{Effect}
-use Rattle.p9_r3k.specs.declared.halt.Effect.TheVariants as effects
-use Rattle.p9_r3k.specs.declared.halt.Asked.{Asked}
-use Rattle.p9_r3k.specs.declared.halt.Asked.TheVariants as asks
+use Rattle.p9_base.specs.declared.halt.Ending.TheVariants.{Running}
+use Rattle.p9_base.specs.declared.halt.Effect.{Effect}
+use Rattle.p9_base.specs.declared.halt.Effect.TheVariants as effects
+use Rattle.p9_base.specs.declared.halt.Asked.{Asked}
+use Rattle.p9_base.specs.declared.halt.Asked.TheVariants as asks
 use Rattle.p9_r3k.specs.Memory.{Core, text_start, stack_start, stack_end, with_reg, readable, writable, read_word, with_word_in, bytes_from}
 use Rattle.p9_r3k.specs.Effects.{effect_of, load_word, store_word, reads, reads_pair, writes_pair}
 use Rattle.p9_r3k.specs.Machine.{State, advanced, without_hazard, fetched, asked, called, acted, executed, going, step}

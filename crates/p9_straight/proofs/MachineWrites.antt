@@ -5,8 +5,8 @@ use Rattle.std.proofs.lemmas.Bool.Decides.{nat_tests}
 use Rattle.p9_base.specs.Words.{is_negative}
 use Rattle.p9_r3k.specs.declared.inst.Inst.{Inst}
 use Rattle.p9_r3k.specs.declared.inst.Inst.TheVariants.{Addiu, Sw, Syscall}
-use Rattle.p9_r3k.specs.declared.halt.HaltCause.TheVariants.{BadAddress}
-use Rattle.p9_r3k.specs.declared.halt.Asked.TheVariants as asks
+use Rattle.p9_base.specs.declared.halt.HaltCause.TheVariants.{BadAddress}
+use Rattle.p9_base.specs.declared.halt.Asked.TheVariants as asks
 use Rattle.p9_r3k.specs.Memory.{Core, text_start, readable, word_in, with_word_in, bytes_from}
 use Rattle.p9_r3k.specs.Machine.{State, run, argument, then_one, asked_write, asked}
 use Rattle.p9_straight.specs.Code.{set_register, system_call}
