@@ -64,7 +64,7 @@ pub enum Operand {
 
 /// What the table of forms knows of an operand.
 #[derive(Clone, Copy, Debug, PartialEq, Eq)]
-pub enum Shape {
+pub enum OperandKind {
     Register,
     Constant,
     Address,

@@ -7,7 +7,7 @@ mod modules;
 mod weights;
 
 pub use instructions::{
-    AFunction, Abs, Autos, Code, Depths, Op, Operand, Operands, Shape, TextDef,
+    AFunction, Abs, Autos, Code, Depths, Op, Operand, Operands, OperandKind, TextDef,
 };
-pub use modules::{AModule, Body, DataPiece, Pieces, Symbol, Symbols};
-pub use weights::{shape_of, weight};
+pub use modules::{AModule, Body, DataPiece, Def, Pieces, Symbol, Symbols};
+pub use weights::{operand_kind, weight};

@@ -1,40 +1,40 @@
 // What an instruction weighs, in machine words.
 ghost use Rattle.std.specs.Prelude.{◌≡◌, IsSome, unwrap_or, map, length};
-ghost use Rattle.p9_abs.specs.Forms.{shape_of, word_move, signed_move, unsigned_move, arithmetic, IsForm, weight_of};
+ghost use Rattle.p9_abs.specs.Forms.{operand_kind, word_move, signed_move, unsigned_move, arithmetic, IsForm, weight_of};
 
-use crate::instructions::{Abs, Op, Operand, Shape};
+use crate::instructions::{Abs, Op, Operand, OperandKind};
 
 /// What the table of forms knows of an operand.
-pub fn shape_of(operand: Operand) -> Shape
-    ensures { result ≡ shape_of operand }
+pub fn operand_kind(operand: Operand) -> OperandKind
+    ensures { result ≡ operand_kind operand }
 {
     match operand {
-        Operand::Reg(_) => Shape::Register,
-        Operand::Const(_) => Shape::Constant,
+        Operand::Reg(_) => OperandKind::Register,
+        Operand::Const(_) => OperandKind::Constant,
         Operand::AddrSB(_, _) | Operand::AddrFP(_) | Operand::AddrSP(_) | Operand::AutoAddr(_, _) =>
-            Shape::Address,
+            OperandKind::Address,
         Operand::MemSB(_, _)
         | Operand::MemFP(_)
         | Operand::MemSP(_)
         | Operand::MemReg(_, _)
-        | Operand::Auto(_, _) => Shape::Memory,
-        Operand::Label(_) => Shape::Target,
-        Operand::Func(_) => Shape::Function,
-        Operand::Hi | Operand::Lo => Shape::Half,
+        | Operand::Auto(_, _) => OperandKind::Memory,
+        Operand::Label(_) => OperandKind::Target,
+        Operand::Func(_) => OperandKind::Function,
+        Operand::Hi | Operand::Lo => OperandKind::Half,
     }
 }
 
 fn word_move_weight(operands: &[Operand]) -> u32
-    requires { IsSome (word_move (map shape_of operands.now)) }
-    ensures { result ≡ unwrap_or (word_move (map shape_of operands.now)) 0 }
+    requires { IsSome (word_move (map operand_kind operands.now)) }
+    ensures { result ≡ unwrap_or (word_move (map operand_kind operands.now)) 0 }
 {
     match operands {
-        [from, to] => match (shape_of(*from), shape_of(*to)) {
-            (Shape::Register, Shape::Register) => 1,
-            (Shape::Constant, _) => 2,
-            (Shape::Address, _) => 3,
-            (Shape::Memory, _) => 4,
-            (Shape::Half, _) => 1,
+        [from, to] => match (operand_kind(*from), operand_kind(*to)) {
+            (OperandKind::Register, OperandKind::Register) => 1,
+            (OperandKind::Constant, _) => 2,
+            (OperandKind::Address, _) => 3,
+            (OperandKind::Memory, _) => 4,
+            (OperandKind::Half, _) => 1,
             _ => 3,
         },
         _ => 0,
@@ -42,13 +42,13 @@ fn word_move_weight(operands: &[Operand]) -> u32
 }
 
 fn signed_move_weight(operands: &[Operand]) -> u32
-    requires { IsSome (signed_move (map shape_of operands.now)) }
-    ensures { result ≡ unwrap_or (signed_move (map shape_of operands.now)) 0 }
+    requires { IsSome (signed_move (map operand_kind operands.now)) }
+    ensures { result ≡ unwrap_or (signed_move (map operand_kind operands.now)) 0 }
 {
     match operands {
-        [from, to] => match (shape_of(*from), shape_of(*to)) {
-            (Shape::Register, Shape::Register) => 2,
-            (Shape::Register, _) => 3,
+        [from, to] => match (operand_kind(*from), operand_kind(*to)) {
+            (OperandKind::Register, OperandKind::Register) => 2,
+            (OperandKind::Register, _) => 3,
             _ => 4,
         },
         _ => 0,
@@ -56,12 +56,12 @@ fn signed_move_weight(operands: &[Operand]) -> u32
 }
 
 fn unsigned_move_weight(operands: &[Operand]) -> u32
-    requires { IsSome (unsigned_move (map shape_of operands.now)) }
-    ensures { result ≡ unwrap_or (unsigned_move (map shape_of operands.now)) 0 }
+    requires { IsSome (unsigned_move (map operand_kind operands.now)) }
+    ensures { result ≡ unwrap_or (unsigned_move (map operand_kind operands.now)) 0 }
 {
     match operands {
-        [from, _] => match shape_of(*from) {
-            Shape::Register => 1,
+        [from, _] => match operand_kind(*from) {
+            OperandKind::Register => 1,
             _ => 4,
         },
         _ => 0,
@@ -69,12 +69,12 @@ fn unsigned_move_weight(operands: &[Operand]) -> u32
 }
 
 fn arithmetic_weight(operands: &[Operand]) -> u32
-    requires { IsSome (arithmetic (map shape_of operands.now)) }
-    ensures { result ≡ unwrap_or (arithmetic (map shape_of operands.now)) 0 }
+    requires { IsSome (arithmetic (map operand_kind operands.now)) }
+    ensures { result ≡ unwrap_or (arithmetic (map operand_kind operands.now)) 0 }
 {
     match operands {
-        [first, _, _] => match shape_of(*first) {
-            Shape::Register => 1,
+        [first, _, _] => match operand_kind(*first) {
+            OperandKind::Register => 1,
             _ => 3,
         },
         _ => 0,

@@ -1,21 +1,21 @@
 // Whether an operation may have these operands.
 ghost use Rattle.std.specs.Prelude.{◌≡◌, ◌↔◌, IsTrue, IsSome, is_some, map};
-ghost use Rattle.p9_abs.specs.Forms.{shape_of, form_of, words_of, word_move, signed_move, unsigned_move, arithmetic, shift, product, pair_branch, sign_branch, jump, call, bare, is_shift, IsCount, ShiftsInRange, IsForm};
+ghost use Rattle.p9_abs.specs.Forms.{operand_kind, kinds_of, words_of, word_move, signed_move, unsigned_move, arithmetic, shift, product, pair_branch, sign_branch, jump, call, bare, is_shift, IsCount, ShiftsInRange, IsForm};
 
-use p9_abs::{Abs, Op, Operand, Shape, shape_of};
+use p9_abs::{Abs, Op, Operand, OperandKind, operand_kind};
 
 fn is_word_move(operands: &[Operand]) -> bool
-    ensures { result ≡ is_some (word_move (map shape_of operands.now)) }
+    ensures { result ≡ is_some (word_move (map operand_kind operands.now)) }
 {
     match operands {
-        [from, to] => match (shape_of(*from), shape_of(*to)) {
-            (Shape::Register, Shape::Register) => true,
-            (Shape::Register, Shape::Memory) => true,
-            (Shape::Register, Shape::Half) => true,
-            (Shape::Constant, Shape::Register) => true,
-            (Shape::Address, Shape::Register) => true,
-            (Shape::Memory, Shape::Register) => true,
-            (Shape::Half, Shape::Register) => true,
+        [from, to] => match (operand_kind(*from), operand_kind(*to)) {
+            (OperandKind::Register, OperandKind::Register) => true,
+            (OperandKind::Register, OperandKind::Memory) => true,
+            (OperandKind::Register, OperandKind::Half) => true,
+            (OperandKind::Constant, OperandKind::Register) => true,
+            (OperandKind::Address, OperandKind::Register) => true,
+            (OperandKind::Memory, OperandKind::Register) => true,
+            (OperandKind::Half, OperandKind::Register) => true,
             _ => false,
         },
         _ => false,
@@ -23,13 +23,13 @@ fn is_word_move(operands: &[Operand]) -> bool
 }
 
 fn is_signed_move(operands: &[Operand]) -> bool
-    ensures { result ≡ is_some (signed_move (map shape_of operands.now)) }
+    ensures { result ≡ is_some (signed_move (map operand_kind operands.now)) }
 {
     match operands {
-        [from, to] => match (shape_of(*from), shape_of(*to)) {
-            (Shape::Register, Shape::Register) => true,
-            (Shape::Register, Shape::Memory) => true,
-            (Shape::Memory, Shape::Register) => true,
+        [from, to] => match (operand_kind(*from), operand_kind(*to)) {
+            (OperandKind::Register, OperandKind::Register) => true,
+            (OperandKind::Register, OperandKind::Memory) => true,
+            (OperandKind::Memory, OperandKind::Register) => true,
             _ => false,
         },
         _ => false,
@@ -37,12 +37,12 @@ fn is_signed_move(operands: &[Operand]) -> bool
 }
 
 fn is_unsigned_move(operands: &[Operand]) -> bool
-    ensures { result ≡ is_some (unsigned_move (map shape_of operands.now)) }
+    ensures { result ≡ is_some (unsigned_move (map operand_kind operands.now)) }
 {
     match operands {
-        [from, to] => match (shape_of(*from), shape_of(*to)) {
-            (Shape::Register, Shape::Register) => true,
-            (Shape::Memory, Shape::Register) => true,
+        [from, to] => match (operand_kind(*from), operand_kind(*to)) {
+            (OperandKind::Register, OperandKind::Register) => true,
+            (OperandKind::Memory, OperandKind::Register) => true,
             _ => false,
         },
         _ => false,
@@ -50,12 +50,12 @@ fn is_unsigned_move(operands: &[Operand]) -> bool
 }
 
 fn is_arithmetic(operands: &[Operand]) -> bool
-    ensures { result ≡ is_some (arithmetic (map shape_of operands.now)) }
+    ensures { result ≡ is_some (arithmetic (map operand_kind operands.now)) }
 {
     match operands {
-        [first, second, to] => match (shape_of(*first), shape_of(*second), shape_of(*to)) {
-            (Shape::Register, Shape::Register, Shape::Register) => true,
-            (Shape::Constant, Shape::Register, Shape::Register) => true,
+        [first, second, to] => match (operand_kind(*first), operand_kind(*second), operand_kind(*to)) {
+            (OperandKind::Register, OperandKind::Register, OperandKind::Register) => true,
+            (OperandKind::Constant, OperandKind::Register, OperandKind::Register) => true,
             _ => false,
         },
         _ => false,
@@ -63,12 +63,12 @@ fn is_arithmetic(operands: &[Operand]) -> bool
 }
 
 fn is_shift_form(operands: &[Operand]) -> bool
-    ensures { result ≡ is_some (shift (map shape_of operands.now)) }
+    ensures { result ≡ is_some (shift (map operand_kind operands.now)) }
 {
     match operands {
-        [first, second, to] => match (shape_of(*first), shape_of(*second), shape_of(*to)) {
-            (Shape::Register, Shape::Register, Shape::Register) => true,
-            (Shape::Constant, Shape::Register, Shape::Register) => true,
+        [first, second, to] => match (operand_kind(*first), operand_kind(*second), operand_kind(*to)) {
+            (OperandKind::Register, OperandKind::Register, OperandKind::Register) => true,
+            (OperandKind::Constant, OperandKind::Register, OperandKind::Register) => true,
             _ => false,
         },
         _ => false,
@@ -76,11 +76,11 @@ fn is_shift_form(operands: &[Operand]) -> bool
 }
 
 fn is_product(operands: &[Operand]) -> bool
-    ensures { result ≡ is_some (product (map shape_of operands.now)) }
+    ensures { result ≡ is_some (product (map operand_kind operands.now)) }
 {
     match operands {
-        [first, second] => match (shape_of(*first), shape_of(*second)) {
-            (Shape::Register, Shape::Register) => true,
+        [first, second] => match (operand_kind(*first), operand_kind(*second)) {
+            (OperandKind::Register, OperandKind::Register) => true,
             _ => false,
         },
         _ => false,
@@ -88,11 +88,11 @@ fn is_product(operands: &[Operand]) -> bool
 }
 
 fn is_pair_branch(operands: &[Operand]) -> bool
-    ensures { result ≡ is_some (pair_branch (map shape_of operands.now)) }
+    ensures { result ≡ is_some (pair_branch (map operand_kind operands.now)) }
 {
     match operands {
-        [first, second, to] => match (shape_of(*first), shape_of(*second), shape_of(*to)) {
-            (Shape::Register, Shape::Register, Shape::Target) => true,
+        [first, second, to] => match (operand_kind(*first), operand_kind(*second), operand_kind(*to)) {
+            (OperandKind::Register, OperandKind::Register, OperandKind::Target) => true,
             _ => false,
         },
         _ => false,
@@ -100,11 +100,11 @@ fn is_pair_branch(operands: &[Operand]) -> bool
 }
 
 fn is_sign_branch(operands: &[Operand]) -> bool
-    ensures { result ≡ is_some (sign_branch (map shape_of operands.now)) }
+    ensures { result ≡ is_some (sign_branch (map operand_kind operands.now)) }
 {
     match operands {
-        [first, to] => match (shape_of(*first), shape_of(*to)) {
-            (Shape::Register, Shape::Target) => true,
+        [first, to] => match (operand_kind(*first), operand_kind(*to)) {
+            (OperandKind::Register, OperandKind::Target) => true,
             _ => false,
         },
         _ => false,
@@ -112,11 +112,11 @@ fn is_sign_branch(operands: &[Operand]) -> bool
 }
 
 fn is_jump(operands: &[Operand]) -> bool
-    ensures { result ≡ is_some (jump (map shape_of operands.now)) }
+    ensures { result ≡ is_some (jump (map operand_kind operands.now)) }
 {
     match operands {
-        [to] => match shape_of(*to) {
-            Shape::Target => true,
+        [to] => match operand_kind(*to) {
+            OperandKind::Target => true,
             _ => false,
         },
         _ => false,
@@ -124,20 +124,20 @@ fn is_jump(operands: &[Operand]) -> bool
 }
 
 fn is_call(operands: &[Operand]) -> bool
-    ensures { result ≡ is_some (call (map shape_of operands.now)) }
+    ensures { result ≡ is_some (call (map operand_kind operands.now)) }
 {
     match operands {
-        [to] => match shape_of(*to) {
-            Shape::Function | Shape::Register => true,
+        [to] => match operand_kind(*to) {
+            OperandKind::Function | OperandKind::Register => true,
             _ => false,
         },
         _ => false,
     }
 }
 
-// Whether the operands' shapes are a row of the operation.
+// Whether the operands' kinds are a row of the operation.
 fn is_in_table(op: Op, operands: &[Operand]) -> bool
-    ensures { result ≡ is_some (words_of op (map shape_of operands.now)) }
+    ensures { result ≡ is_some (words_of op (map operand_kind operands.now)) }
 {
     match op {
         Op::MovW => is_word_move(operands),

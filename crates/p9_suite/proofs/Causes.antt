@@ -15,7 +15,8 @@ use Rattle.p9_form.specs.Spelling.{HasForm, HasNoForm}
 use Rattle.p9_names.specs.declared.table.Table.{Table}
 use Rattle.p9_names.specs.declared.table.LinkFault.{LinkFault}
 use Rattle.p9_names.specs.declared.table.LinkFault.TheVariants as links
-use Rattle.p9_names.specs.Answers.{linked, Joins}
+use Rattle.p9_abs.specs.BuiltIn.{linked}
+use Rattle.p9_names.specs.Answers.{Joins}
 use Rattle.p9_names.proofs.Exactness.{joined_exactly}
 use Rattle.p9_r3k.specs.Machine.{State, exit_text}
 use Rattle.p9_base.specs.declared.halt.Ending.{Ending}
