@@ -19,11 +19,13 @@ rounded n align = (n + (align - 1)) / align * align
 abbrev pub scalar : ℕ → Option Extent
 scalar n = Some (record { size = n; align = n })
 
-abbrev pub repeated : ℕ → Extent → Extent
-repeated n element = record { size = element.size * n; align = element.align }
+-- an array whose length isn't known yet is written with length 0
+abbrev pub repeated : ℕ → Extent → Option Extent
+repeated zero element = None
+repeated (suc n) element = Some (record { size = element.size * suc n; align = element.align })
 
--- The extent of a type, by those of tags. Void, functions, and structures without a body have none:
--- their types are incomplete.
+-- The extent of a type, by those of tags. Void, functions, arrays without a length and structures
+-- without a body have none: their types are incomplete.
 abbrev pub extent : (ℕ → Option Extent) → TypeTree → Option Extent
 extent of_tag Void = None
 extent of_tag Char = scalar 1
@@ -35,7 +37,7 @@ extent of_tag UInt = scalar 4
 extent of_tag Long = scalar 4
 extent of_tag ULong = scalar 4
 extent of_tag (Pointer target) = scalar 4
-extent of_tag (Array element n) = on_some (extent of_tag element) (λ e. Some (repeated n e))
+extent of_tag (Array element n) = on_some (extent of_tag element) (repeated n)
 extent of_tag (Function result parameters) = None
 extent of_tag (Tagged i) = of_tag i
 

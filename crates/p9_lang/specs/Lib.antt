@@ -4,4 +4,7 @@ pub mod Types
 pub mod Layout
 pub mod Members
 pub mod Agreement
+pub mod Conversions
+pub mod Rules
 pub mod Modules
+pub mod Constants
