@@ -1,0 +1,10 @@
+pub mod Cells
+pub mod Plays
+pub mod Turns
+pub mod Access
+pub mod Contents
+pub mod Operators
+pub mod Places
+pub mod SystemCalls
+pub mod Automatics
+pub mod Expressions
