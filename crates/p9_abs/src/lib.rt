@@ -2,12 +2,15 @@
 //! weighs.
 #![tactic(auto)]
 
+mod forms;
 mod instructions;
 mod modules;
 mod weights;
 
-pub use instructions::{
-    AFunction, Abs, Autos, Code, Depths, Op, Operand, Operands, OperandKind, TextDef,
+pub use forms::{
+    Calculation, Form, Location, OperandKind, PairTest, Product, SignTest, Special, Width, decoded,
+    form_of, operand_kind,
 };
+pub use instructions::{AFunction, Abs, Autos, Code, Depths, Op, Operand, Operands, TextDef};
 pub use modules::{AModule, Body, DataPiece, Def, Pieces, Symbol, Symbols};
-pub use weights::{operand_kind, weight};
+pub use weights::{weight, words_of};
