@@ -7,7 +7,6 @@ ghost use Rattle.p9_r3k.specs.Machine.{fetched};
 ghost use Rattle.p9_vi.specs.Kept.{IsClear};
 ghost use Rattle.p9_vi.specs.Steps.{Plain, PlainRun};
 
-use crate::hazards::reads_pair;
 use crate::machine::{Machine, TEXT_START};
 use p9_r3k::{Effect, Ending, HaltCause, Inst, decode};
 
@@ -59,7 +58,7 @@ impl Machine {
         match self.effect(i) {
             Effect::Call => false,
             effect => {
-                self.apply(effect, reads_pair(i));
+                self.apply(effect, i.reads_pair());
                 true
             }
         }
