@@ -5,6 +5,7 @@
 mod forms;
 mod instructions;
 mod modules;
+mod regions;
 mod weights;
 
 pub use forms::{
@@ -13,4 +14,5 @@ pub use forms::{
 };
 pub use instructions::{AFunction, Abs, Autos, Code, Depths, Op, Operand, Operands, TextDef};
 pub use modules::{AModule, Body, DataPiece, Def, Pieces, Symbol, Symbols};
+pub use regions::{Homes, Points, Region, Regions};
 pub use weights::{weight, words_of};
