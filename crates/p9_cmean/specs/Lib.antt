@@ -10,3 +10,4 @@ pub mod Automatics
 pub mod Expressions
 pub mod Declarations
 pub mod Statements
+pub mod PlayLaws
