@@ -3,7 +3,6 @@
 -- Dead, Misaligned, Range, Overlap, Unset, Mixed.
 use Rattle.std.specs.Prelude.{ℕ, zero, suc, ◌+◌, ◌-◌, ◌*◌, ◌/◌, ◌%◌, ◌^◌, ◌==◌, ◌&&◌, nat_lt, if◌then◌else◌, Bool, true, false, not, List, [], ◌∷◌, ◌++◌, length, take, drop, slice_get, slice_set, unwrap_or, Option, Some, None, Result, Ok, Err}
 use Rattle.std.specs.List.{list_any, list_all}
-use Rattle.p9_base.specs.Numbers.{sign_extended}
 use Rattle.p9_lang.specs.Names.{same_name}
 use Rattle.p9_cmean.specs.declared.Cause.{Cause}
 use Rattle.p9_cmean.specs.declared.Cause.TheVariants as cause
@@ -132,15 +131,6 @@ moved_inside objects offset address = and_go (pointer_in address) (moved objects
 
 -- INTEGERS AND POINTERS IN CELLS
 
--- how many bytes an integer has, and whether it has a sign
-pub record Width : Type 0 where
-  pub bytes : ℕ
-  pub is_signed : Bool
-
--- the low bits of a number, as an integer of this width is worth: as a word, with its sign
-abbrev pub narrowed : Width → ℕ → ℕ
-narrowed width n = if width.is_signed then sign_extended (8 * width.bytes) n else n % 256 ^ width.bytes
-
 abbrev pub is_unset : Cell → Bool
 is_unset Unset = true
 is_unset (Byte n) = false
@@ -168,11 +158,12 @@ number_of before (Unset ∷ cells) = number_of (before * 256) cells
 number_of before (Byte n ∷ cells) = number_of (before * 256 + n) cells
 number_of before (Part k pointer ∷ cells) = number_of (before * 256) cells
 
-abbrev pub integer_from : Width → List Cell → Result Value Cause
-integer_from width cells =
+-- as an integer of a type that makes of a number what it is worth
+abbrev pub integer_from : (worth : ℕ → ℕ) → List Cell → Result Value Cause
+integer_from worth cells =
     if list_any is_unset cells then Err cause.Unset
     else (if list_any is_part cells then Err cause.Mixed
-    else Ok (Word (narrowed width (number_of 0 cells))))
+    else Ok (Word (worth (number_of 0 cells))))
 
 -- part k and the parts behind it, up to the fourth
 abbrev pub are_parts_of : Pointer → (k : ℕ) → List Cell → Bool

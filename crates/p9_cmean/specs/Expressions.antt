@@ -13,15 +13,18 @@ use Rattle.p9_lang.specs.Trees.{node, none, more}
 use Rattle.p9_lang.specs.Layout.{size_of, alignment_of}
 use Rattle.p9_lang.specs.Members.{Found, At, Missing, Ambiguous, Incomplete, find_member}
 use Rattle.p9_lang.specs.Modules.{Label, Typed, TypedRow}
+use Rattle.p9_lang.specs.Conversions.{is_pointer, is_structure, decayed, common, Conversion, Same, Null, Inner, No, conversion}
+use Rattle.p9_lang.specs.Conversions as conversions
+use Rattle.p9_lang.specs.Constants.{truth, narrowed, is_null_constant, type_at, constant_of}
 use Rattle.p9_cmean.specs.declared.Cause.{Cause}
 use Rattle.p9_cmean.specs.declared.Cause.TheVariants as cause
 use Rattle.p9_cmean.specs.declared.Place.{Place}
 use Rattle.p9_cmean.specs.Cells.{FunctionName, Value, Word, Address, Object, State}
 use Rattle.p9_cmean.specs.Cells as cells
 use Rattle.p9_cmean.specs.Plays.{Play, Done, NoMeaning, Moved, Ask, bind}
-use Rattle.p9_cmean.specs.Access.{and_go, pointer_in, usable, integer_from, pointer_from, loaded, stored, read_whole, written_whole, moved_inside}
-use Rattle.p9_cmean.specs.Contents.{Content, Integer, Reference, Aggregate, Nothing, content_of, decayed, Conversion, Narrow, Keep, Inside, NotConverted, conversion, narrow}
-use Rattle.p9_cmean.specs.Operators.{truth, operation, of_integer, holds}
+use Rattle.p9_cmean.specs.Access.{and_go, integer_in, pointer_in, null, usable, integer_from, pointer_from, loaded, stored, read_whole, written_whole, moved_inside}
+use Rattle.p9_cmean.specs.Contents.{Content, Integer, Reference, Aggregate, Nothing, content_of}
+use Rattle.p9_cmean.specs.Operators.{operation, of_integer, holds}
 use Rattle.p9_cmean.specs.Places.{used, or_wrong, done_at, or_no_meaning}
 use Rattle.p9_cmean.specs.Automatics.{Living, living_object}
 
@@ -41,12 +44,9 @@ pub record Surroundings : Type 0 where
 abbrev pub at : Surroundings → Label → Place
 at around label = record { «module» = around.owner; node = label.number }
 
-abbrev pub type_of : Typed → TypeTree
-type_of (node k label parts) = label.type
-
 -- the type of an operand, whose arrays and functions have become pointers
 abbrev pub operand_type : Typed → TypeTree
-operand_type e = decayed (type_of e)
+operand_type e = decayed (type_at e)
 
 -- the node of the lvalue that is read where an expression is one
 abbrev pub lvalue_place : Surroundings → Typed → Place
@@ -74,42 +74,54 @@ address_of_name around label s =
 
 -- READING AND WRITING
 
-abbrev pub read_content : Content → Place → Value → State → Play Value
-read_content (Integer width) place address s =
-    done_at place s (loaded (integer_from width) width.bytes width.bytes s.objects address)
-read_content Reference place address s = done_at place s (loaded pointer_from 4 4 s.objects address)
-read_content Aggregate place address s = Done address s
-read_content Nothing place address s = NoMeaning place s
+abbrev pub read_content : Content → Tags → TypeTree → Place → (address : Value) → State → Play Value
+read_content Integer tags type place address s =
+    done_at place s (loaded (integer_from (narrowed type)) (size_of tags type) (alignment_of tags type) s.objects address)
+read_content Reference tags type place address s =
+    done_at place s (loaded pointer_from (size_of tags type) (alignment_of tags type) s.objects address)
+read_content Aggregate tags type place address s = Done address s
+read_content Nothing tags type place address s = NoMeaning place s
 
--- what an lvalue at an address is worth
-abbrev pub read_at : TypeTree → Place → (address : Value) → State → Play Value
-read_at type place address s = read_content (content_of type) place address s
+-- what an lvalue of a type is worth, by its address
+abbrev pub read_at : Surroundings → TypeTree → Place → (address : Value) → State → Play Value
+read_at around type place address s = read_content (content_of type) around.tags type place address s
 
-abbrev pub with_stored : (size : ℕ) → Place → (address value : Value) → State → Play Value
-with_stored size place address value s =
-    or_wrong place s (stored size size s.objects address value) (λ objects. Done value (record s { objects = objects }))
+abbrev pub store_scalar : Tags → TypeTree → Place → (address value : Value) → State → Play Value
+store_scalar tags type place address value s =
+    or_wrong place s (stored (size_of tags type) (alignment_of tags type) s.objects address value) (λ objects.
+    Done value (record s { objects = objects }))
 
-abbrev pub store_content : Content → Place → (address value : Value) → State → Play Value
-store_content (Integer width) place address value s = with_stored width.bytes place address value s
-store_content Reference place address value s = with_stored 4 place address value s
-store_content Aggregate place address value s = NoMeaning place s
-store_content Nothing place address value s = NoMeaning place s
+abbrev pub store_content : Content → Tags → TypeTree → Place → (address value : Value) → State → Play Value
+store_content Integer tags type place address value s = store_scalar tags type place address value s
+store_content Reference tags type place address value s = store_scalar tags type place address value s
+store_content Aggregate tags type place address value s = NoMeaning place s
+store_content Nothing tags type place address value s = NoMeaning place s
 
-abbrev pub by_conversion : Conversion → Place → Value → State → Play Value
-by_conversion (Narrow width) place value s = done_at place s (narrow width value)
-by_conversion Keep place value s = Done value s
-by_conversion (Inside offset) place value s = done_at place s (moved_inside s.objects offset value)
-by_conversion NotConverted place value s = NoMeaning place s
+-- CONVERSION: of an assignment, an argument, a returned value and an initialiser. An integer keeps its
+-- low bits, a pointer stays as it is or becomes one to a substructure, and the null constant is null.
 
--- a value as one of another type
-abbrev pub convert_at : Surroundings → Place → (from to : TypeTree) → Value → State → Play Value
-convert_at around place from to value s =
-    used value s (λ v. by_conversion (conversion around.tags from to) place v s)
+abbrev pub narrow : TypeTree → Value → Result Value Cause
+narrow type value = and_go (integer_in value) (λ n. Ok (Word (narrowed type n)))
+
+abbrev pub by_conversion : Conversion → Place → (to : TypeTree) → Value → State → Play Value
+by_conversion Same place to value s = Done value s
+by_conversion conversions.Integer place to value s = done_at place s (narrow to value)
+by_conversion Null place to value s = Done null s
+by_conversion (Inner offset) place to value s = done_at place s (moved_inside s.objects offset value)
+by_conversion conversions.Ambiguous place to value s = NoMeaning place s
+by_conversion No place to value s = NoMeaning place s
+
+abbrev pub convert_at : Conversion → Place → (to : TypeTree) → Value → State → Play Value
+convert_at converts place to value s = used value s (λ v. by_conversion converts place to v s)
+
+-- of an expression to a type
+abbrev pub conversion_of : Surroundings → Typed → (to : TypeTree) → Conversion
+conversion_of around e to = conversion around.tags (operand_type e) to (is_null_constant (constant_of around.tags e))
 
 -- An assignment is worth the value that is written.
-abbrev pub assign_scalar : Surroundings → Place → (from to : TypeTree) → (address value : Value) → State → Play Value
-assign_scalar around place from to address value s =
-    bind (convert_at around place from to value s) (λ v t. store_content (content_of to) place address v t)
+abbrev pub assign_scalar : Surroundings → Conversion → Place → TypeTree → (address value : Value) → State → Play Value
+assign_scalar around converts place type address value s =
+    bind (convert_at converts place type value s) (λ v t. store_content (content_of type) around.tags type place address v t)
 
 -- A structure is copied: it is read at the right side's lvalue, and written at the assignment.
 abbrev pub assign_structure : Surroundings → (place read : Place) → TypeTree → (to from : Value) → State → Play Value
@@ -118,9 +130,12 @@ assign_structure around place read type to from s =
     or_wrong place s (written_whole (size_of around.tags type) (alignment_of around.tags type) s.objects to from cells) (λ objects.
     Moved (size_of around.tags type) (Done to (record s { objects = objects }))))
 
-abbrev pub assign : Surroundings → (place read : Place) → (from to : TypeTree) → (address value : Value) → State → Play Value
-assign around place read from (Tagged tag) address value s = assign_structure around place read (Tagged tag) address value s
-assign around place read from to address value s = assign_scalar around place from to address value s
+-- an expression's value, to an lvalue of a type
+abbrev pub assign : Surroundings → Place → Typed → TypeTree → (address value : Value) → State → Play Value
+assign around place e type address value s =
+    if is_structure type
+    then assign_structure around place (lvalue_place around e) type address value s
+    else assign_scalar around (conversion_of around e type) place type address value s
 
 -- OPERATORS
 
@@ -143,11 +158,17 @@ complemented place value s = used value s (λ v. done_at place s (of_integer wor
 abbrev pub promoted : Place → Value → State → Play Value
 promoted place value s = used value s (λ v. done_at place s (of_integer (λ n. n) v))
 
--- what is read by `op=` is an operand, and what comes of it is assigned
+-- What is read by `op=` is an operand, and what comes of it is assigned: a pointer of the same type, or
+-- an integer of the common type.
+abbrev pub result_conversion : Surroundings → (type right : TypeTree) → Conversion
+result_conversion around type right =
+    if is_pointer type then Same else conversion around.tags (common type right) type false
+
 abbrev pub update : Surroundings → (place read : Place) → CBinary → (type right : TypeTree) → (address value : Value) → State → Play Value
 update around place read op type right address value s =
-    bind (read_at type read address s) (λ old t.
-    bind (operate around place op type right old value t) (λ new u. assign_scalar around place type type address new u))
+    bind (read_at around type read address s) (λ old t.
+    bind (operate around place op type right old value t) (λ new u.
+    assign_scalar around (result_conversion around type right) place type address new u))
 
 -- `++` and `--` add and subtract 1, and give the new value before their operand, the old one behind it
 abbrev pub step_operator : (minus : Bool) → CBinary
@@ -156,16 +177,16 @@ step_operator false = operator.Add
 
 abbrev pub old_value : Surroundings → (place read : Place) → CBinary → TypeTree → (address : Value) → State → Play Value
 old_value around place read op type address s =
-    bind (read_at type read address s) (λ old t.
+    bind (read_at around type read address s) (λ old t.
     bind (operate around place op type Int old (Word 1) t) (λ new u.
-    bind (assign_scalar around place type type address new u) (λ written w. Done old w)))
+    bind (assign_scalar around (result_conversion around type Int) place type address new u) (λ written w. Done old w)))
 
 -- A cast to void gives no value, one to an integer narrows, and a pointer is kept.
-abbrev pub cast_to : Content → Place → Value → State → Play Value
-cast_to (Integer width) place value s = used value s (λ v. done_at place s (narrow width v))
-cast_to Reference place value s = used value s (λ v. Done v s)
-cast_to Aggregate place value s = NoMeaning place s
-cast_to Nothing place value s = Done (cells.Missing place) s
+abbrev pub cast_to : Content → TypeTree → Place → Value → State → Play Value
+cast_to Integer type place value s = used value s (λ v. done_at place s (narrow type v))
+cast_to Reference type place value s = used value s (λ v. Done v s)
+cast_to Aggregate type place value s = NoMeaning place s
+cast_to Nothing type place value s = Done (cells.Missing place) s
 
 -- The parts of `? :` are used, but where they are void.
 abbrev pub chosen : TypeTree → Value → State → Play Value
@@ -199,7 +220,7 @@ value_of_name around label s = by label.means
   where
     by : Meant → Play Value
     by (EnumValue n) = Done (Word n) s
-    by means = bind (address_of_name around label s) (λ p t. read_at label.type (at around label) p t)
+    by means = bind (address_of_name around label s) (λ p t. read_at around label.type (at around label) p t)
 
 -- CALLS
 
@@ -240,7 +261,7 @@ abbrev mutual
       operate around (at around label) operator.Add (operand_type array) (operand_type index) a i u))
   address around (node (kind.Dot arrow name) label (more e none)) s =
       bind (value around e s) (λ p t.
-      member_at around (at around label) arrow (if arrow then operand_type e else type_of e) name p t)
+      member_at around (at around label) arrow (if arrow then operand_type e else type_at e) name p t)
   address around (node k label parts) s = NoMeaning (at around label) s
 
   -- the value of an expression
@@ -249,11 +270,11 @@ abbrev mutual
   value around (node (kind.Character n) label none) s = Done (Word n) s
   value around (node (kind.Name x) label none) s = value_of_name around label s
   value around (node (kind.Text texts) label none) s =
-      bind (address_of_name around label s) (λ p t. read_at label.type (at around label) p t)
+      bind (address_of_name around label s) (λ p t. read_at around label.type (at around label) p t)
   value around (node kind.Parens label (more e none)) s = value around e s
   value around (node (kind.Unary unary.Address) label (more e none)) s = address around e s
   value around (node (kind.Unary unary.Deref) label (more e none)) s =
-      bind (value around e s) (λ p t. used p t (λ q. read_at label.type (at around label) q t))
+      bind (value around e s) (λ p t. used p t (λ q. read_at around label.type (at around label) q t))
   value around (node (kind.Unary unary.Plus) label (more e none)) s =
       bind (value around e s) (λ v t. promoted (at around label) v t)
   value around (node (kind.Unary unary.Minus) label (more e none)) s =
@@ -263,18 +284,18 @@ abbrev mutual
   value around (node (kind.Unary unary.Not) label (more e none)) s =
       bind (value around e s) (λ v t.
       bind (test_at (at around label) (operand_type e) v t) (λ holds u. Done (Word (truth (not holds))) u))
-  value around (node kind.SizeofValue label (more e none)) s = Done (Word (size_of around.tags (type_of e))) s
-  value around (node kind.SizeofType label (more type none)) s = Done (Word (size_of around.tags (type_of type))) s
+  value around (node kind.SizeofValue label (more e none)) s = Done (Word (size_of around.tags (type_at e))) s
+  value around (node kind.SizeofType label (more type none)) s = Done (Word (size_of around.tags (type_at type))) s
   value around (node kind.Cast label (more type (more e none))) s =
-      bind (value around e s) (λ v t. cast_to (content_of label.type) (at around label) v t)
+      bind (value around e s) (λ v t. cast_to (content_of label.type) label.type (at around label) v t)
   value around (node kind.Index label (more array (more index none))) s =
       bind (value around array s) (λ a t. bind (value around index t) (λ i u.
       bind (operate around (at around label) operator.Add (operand_type array) (operand_type index) a i u) (λ p w.
-      read_at label.type (at around label) p w)))
+      read_at around label.type (at around label) p w)))
   value around (node (kind.Dot arrow name) label (more e none)) s =
       bind (value around e s) (λ p t.
-      bind (member_at around (at around label) arrow (if arrow then operand_type e else type_of e) name p t) (λ q u.
-      read_at label.type (at around label) q u))
+      bind (member_at around (at around label) arrow (if arrow then operand_type e else type_at e) name p t) (λ q u.
+      read_at around label.type (at around label) q u))
   value around (node (kind.Binary operator.AndAnd) label (more left (more right none))) s =
       bind (value around left s) (λ a t. bind (test_at (at around label) (operand_type left) a t) (λ first u.
       if first
@@ -295,16 +316,16 @@ abbrev mutual
       else bind (value around second u) (λ w x. chosen label.type w x)))
   value around (node (kind.Assign None) label (more left (more right none))) s =
       bind (address around left s) (λ p t. bind (value around right t) (λ v u.
-      assign around (at around label) (lvalue_place around right) (operand_type right) (type_of left) p v u))
+      assign around (at around label) right (type_at left) p v u))
   value around (node (kind.Assign (Some op)) label (more left (more right none))) s =
       bind (address around left s) (λ p t. bind (value around right t) (λ v u.
-      update around (at around label) (lvalue_place around left) op (type_of left) (operand_type right) p v u))
+      update around (at around label) (lvalue_place around left) op (type_at left) (operand_type right) p v u))
   value around (node (kind.Pre minus) label (more e none)) s =
       bind (address around e s) (λ p t.
-      update around (at around label) (lvalue_place around e) (step_operator minus) (type_of e) Int p (Word 1) t)
+      update around (at around label) (lvalue_place around e) (step_operator minus) (type_at e) Int p (Word 1) t)
   value around (node (kind.Post minus) label (more e none)) s =
       bind (address around e s) (λ p t.
-      old_value around (at around label) (lvalue_place around e) (step_operator minus) (type_of e) p t)
+      old_value around (at around label) (lvalue_place around e) (step_operator minus) (type_at e) p t)
   value around (node kind.Comma label (more left (more right none))) s =
       bind (value around left s) (λ v t. value around right t)
   value around (node kind.Call label (more function arguments)) s =
@@ -320,5 +341,5 @@ abbrev mutual
   values around place (types.more parameter parameters) none s = NoMeaning place s
   values around place (types.more parameter parameters) (more first others) s =
       bind (value around first s) (λ v t.
-      bind (convert_at around place (operand_type first) parameter v t) (λ w u.
+      bind (convert_at (conversion_of around first parameter) place parameter v t) (λ w u.
       bind (values around place parameters others u) (λ vs x. Done (w ∷ vs) x)))

@@ -8,3 +8,6 @@ pub mod Places
 pub mod SystemCalls
 pub mod Automatics
 pub mod Expressions
+pub mod Declarations
+pub mod Statements
+pub mod PlayLaws
