@@ -1,11 +1,4 @@
 pub mod Plays
 pub mod Calls
-pub mod Outputs
+pub mod Going
 pub mod Later
-pub mod Fitting
-pub mod Runs
-pub mod Variables
-pub mod FormPlays
-pub mod FormCalls
-pub mod FormObjects
-pub mod Examples

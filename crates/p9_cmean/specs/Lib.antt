@@ -2,11 +2,12 @@ pub mod Cells
 pub mod Plays
 pub mod Turns
 pub mod Access
+pub mod Contents
+pub mod Operators
+pub mod Places
 pub mod SystemCalls
-pub mod Joins
-pub mod Union
+pub mod Automatics
 pub mod Expressions
+pub mod Declarations
 pub mod Statements
-pub mod CRun
-pub mod Examples
 pub mod PlayLaws

@@ -1,13 +1,9 @@
-//! What C programs mean, as definitions: `specs/` has objects and their cells, the system calls,
-//! and the run of a program in a number of turns.
+//! What C programs mean: the operations that are undefined, and where they stand.
 #![tactic(auto)]
 
 mod laws;
 
-pub use laws::{
-    bind_is_associative, calls_take_turns, depth_is_enough, loops_follow, loops_last, output_grows,
-    runs_go_on, runs_of_form,
-};
+pub use laws::{bind_is_associative, calls_take_turns, depth_is_enough, loops_follow, loops_last};
 
 /// An operation that C leaves undefined.
 #[derive(Clone, Copy, Debug, PartialEq, Eq, Drop)]

@@ -5,8 +5,8 @@ use Rattle.p9_lang.specs.declared.tree.SpecWord.{SpecWord}
 use Rattle.p9_lang.specs.declared.tree.SpecWord.TheVariants as word
 use Rattle.p9_lang.specs.declared.tree.Kind.{Kind}
 use Rattle.p9_lang.specs.declared.tree.Kind.TheVariants as kind
-use Rattle.p9_lang.specs.Trees.{node, none, more, Syntax, SyntaxRow, row}
-use Rattle.p9_lang.specs.Modules.{Source, source_from}
+use Rattle.p9_first.specs.Trees.{node, none, more, Syntax, SyntaxRow, row}
+use Rattle.p9_first.specs.Modules.{Source, source_from}
 use Rattle.p9_form.specs.declared.file.Operand.{Operand}
 use Rattle.p9_form.specs.declared.file.Operand.TheVariants.{Variable, Number}
 use Rattle.p9_form.specs.declared.file.Statement.{Statement}

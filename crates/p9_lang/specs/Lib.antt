@@ -1,8 +1,10 @@
-pub mod Types
+pub mod Names
 pub mod Trees
-pub mod Tokens
-pub mod Form
+pub mod Types
 pub mod Layout
-pub mod Typing
+pub mod Members
+pub mod Agreement
+pub mod Conversions
+pub mod Rules
 pub mod Modules
-pub mod Examples
+pub mod Constants

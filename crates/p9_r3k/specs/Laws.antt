@@ -1,6 +1,6 @@
 -- Laws of the machines' runs.
-use Rattle.std.specs.Prelude.{ℕ, ◌+◌, ◌-◌, ◌^◌, ◌≡◌, ◌≤◌, ◌<◌, ◌++◌, List, length, take, All}
-use Rattle.p9_base.specs.Words.{IsWord}
+use Rattle.std.specs.Prelude.{ℕ, ◌+◌, ◌-◌, ◌^◌, ◌≡◌, ◌≤◌, ◌++◌, List, length, take}
+pub use Rattle.p9_base.specs.Holding.{AreWords, AreBytes, HoldsWords}
 use Rattle.p9_base.specs.declared.order.ByteOrder.{ByteOrder}
 use Rattle.p9_base.specs.declared.halt.Ending.{Ending}
 use Rattle.p9_base.specs.declared.halt.Ending.TheVariants.{Running, Exited, Halted}
@@ -55,22 +55,6 @@ pub record KeepsText (c d : Core) : Type 0 where
 
 abbrev pub TextStays : Type 0
 TextStays = (n : ℕ) (s : State) → LaidOut s.core → KeepsText s.core (run n s).core
-
--- registers hold words, register 0 holds 0, and memory holds bytes
-abbrev pub AreWords : List ℕ → Type 0
-AreWords xs = All IsWord xs
-
-abbrev pub AreBytes : List ℕ → Type 0
-AreBytes xs = All (λ b. b < 2 ^ 8) xs
-
-pub record HoldsWords (c : Core) : Type 0 where
-  pub count : length c.regs ≡ 32
-  pub zero_register : reg c 0 ≡ 0
-  pub registers : AreWords c.regs
-  pub high : IsWord c.hi
-  pub less : IsWord c.lo
-  pub low_bytes : AreBytes c.low
-  pub stack_bytes : AreBytes c.stack
 
 abbrev pub WordsStay : Type 0
 WordsStay =

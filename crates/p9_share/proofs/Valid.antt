@@ -14,7 +14,7 @@ use Rattle.p9_abs.specs.declared.modules.AModule.{AModule}
 use Rattle.p9_abs.specs.declared.modules.Symbol.{Symbol}
 use Rattle.p9_abs.specs.Modules.{named_by_operand, named_by_piece, operands_of, pieces_of}
 use Rattle.p9_abs.specs.Validity.{IsGraphic, IsName, IsSignature, AreApart, IsWithin, IsInRange, NamesWithin, IsFilled, HasWellPieced, HasSizeInRange, IsInstruction, HasFunction, IsValid}
-use Rattle.p9_lang.specs.Form.{is_letter, is_letter_or_digit, is_name, is_variable_name, same_name, is_among, keywords, functions, IsFile}
+use Rattle.p9_first.specs.Form.{is_letter, is_letter_or_digit, is_name, is_variable_name, same_name, is_among, keywords, functions, IsFile}
 use Rattle.p9_form.specs.declared.file.Statement.{Statement}
 use Rattle.p9_form.specs.declared.file.First.{First}
 use Rattle.p9_form.specs.declared.file.First.TheVariants as first

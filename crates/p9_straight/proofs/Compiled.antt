@@ -1,7 +1,7 @@
 -- What `compile` answers keeps the meaning of its files, and ends in time.
 use Rattle.std.proofs.Common.{◌≡◌, ◌≤◌, ℕ, List, length, map, All, Result, Ok, Err, IfOk}
 use Rattle.p9_aout.specs.Image.{image_of}
-use Rattle.p9_lang.specs.Form.{IsFile}
+use Rattle.p9_first.specs.Form.{IsFile}
 use Rattle.p9_form.specs.declared.file.File.{File}
 use Rattle.p9_form.specs.Items.{items_of, source_of}
 use Rattle.p9_form.specs.Sharing.{AreJoined, IsSmall}

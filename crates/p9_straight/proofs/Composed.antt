@@ -1,10 +1,10 @@
 -- The executable of joined files keeps their meaning, and ends in time.
 use Rattle.std.proofs.Common.{◌≡◌, ◌≤◌, ℕ, zero, suc, ◌+◌, ◌-◌, Bool, true, false, if◌then◌else◌, nat_le, List, [], ◌∷◌, ◌++◌, length, take, map, flat_map, Contains, All, Some, IsSomeAnd, Ok, option_map, sym, ap, ◌∙◌, subst, arith}
 use Rattle.p9_aout.specs.Image.{ImageParts, image_of}
-use Rattle.p9_lang.specs.Form.{IsFile}
+use Rattle.p9_first.specs.Form.{IsFile}
 use Rattle.p9_base.specs.Words.{is_negative}
-use Rattle.p9_cmean.specs.Turns.{Outcome, Ended, Out, Undefined, Deep}
-use Rattle.p9_cmean.specs.CRun.{source_run}
+use Rattle.p9_first.specs.Turns.{Outcome, Ended, Out, Undefined, Deep}
+use Rattle.p9_first.specs.CRun.{source_run}
 use Rattle.p9_base.specs.declared.halt.Ending.{Ending}
 use Rattle.p9_base.specs.declared.halt.Ending.TheVariants.{Running, Exited, Halted}
 use Rattle.p9_r3k.specs.Machine.{State, run, exit_text}

@@ -4,7 +4,7 @@ use Rattle.std.specs.Prelude.{Contains, IsTrue}
 use Rattle.std.specs.List.{list_all}
 use Rattle.std.proofs.Math.ListN.{get_or-append}
 use Rattle.std.proofs.lemmas.List.{get_or-append-add}
-use Rattle.p9_lang.specs.Form.{is_text_byte}
+use Rattle.p9_first.specs.Form.{is_text_byte}
 use Rattle.p9_r3k.specs.declared.inst.Inst.{Inst}
 use Rattle.p9_base.specs.declared.halt.Ending.TheVariants.{Running}
 use Rattle.p9_r3k.specs.Machine.{State, run, exit_text}

@@ -1,8 +1,8 @@
 -- An executable keeps the meaning of sources.
 use Rattle.std.specs.Prelude.{◌≡◌, ◌≤◌, ℕ, List}
-use Rattle.p9_lang.specs.Modules.{Source}
-use Rattle.p9_cmean.specs.Turns.{Outcome, Ended, Out, Undefined, Deep}
-use Rattle.p9_cmean.specs.CRun.{source_run}
+use Rattle.p9_first.specs.Modules.{Source}
+use Rattle.p9_first.specs.Turns.{Outcome, Ended, Out, Undefined, Deep}
+use Rattle.p9_first.specs.CRun.{source_run}
 use Rattle.p9_vi.specs.Run.{HasExited, IsRunning}
 
 -- For every input and number of turns in which the union of the sources does nothing undefined and has room for its

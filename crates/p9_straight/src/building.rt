@@ -1,7 +1,7 @@
 // The executable of files that share variables.
 ghost use Rattle.std.specs.Prelude.{◌≡◌, ◌≤◌, ◌<◌, ◌^◌, [], length, map, All, IfOk, Ok};
 ghost use Rattle.p9_aout.specs.Image.{ImageParts, image_of, parts_of, IsWithinBounds};
-ghost use Rattle.p9_lang.specs.Form.{IsFile};
+ghost use Rattle.p9_first.specs.Form.{IsFile};
 ghost use Rattle.p9_form.specs.Items.{items_of, source_of};
 ghost use Rattle.p9_form.specs.Sharing.{AreJoined, IsSmall};
 ghost use Rattle.p9_straight.specs.Code.{parts_for};

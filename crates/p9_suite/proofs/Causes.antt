@@ -5,17 +5,18 @@ use Rattle.p9_aout.specs.Image.{ImageParts, image_of}
 use Rattle.p9_aout.specs.declared.format.AoutFault.{AoutFault}
 use Rattle.p9_aout.specs.declared.format.AoutFault.TheVariants as fault
 use Rattle.p9_lang.specs.declared.module.Module.{Module}
-use Rattle.p9_lang.specs.Modules.{Source, sources_of, source_from}
-use Rattle.p9_lang.proofs.Sources.{source_of_module}
-use Rattle.p9_cmean.specs.Turns as outcome
-use Rattle.p9_cmean.specs.CRun.{source_run, crun}
+use Rattle.p9_first.specs.Modules.{Source, sources_of, source_from}
+use Rattle.p9_first.proofs.Sources.{source_of_module}
+use Rattle.p9_first.specs.Turns as outcome
+use Rattle.p9_first.specs.CRun.{source_run, crun}
 use Rattle.p9_form.specs.declared.file.File.{File}
 use Rattle.p9_form.specs.Items.{items_of, source_of}
 use Rattle.p9_form.specs.Spelling.{HasForm, HasNoForm}
 use Rattle.p9_names.specs.declared.table.Table.{Table}
 use Rattle.p9_names.specs.declared.table.LinkFault.{LinkFault}
 use Rattle.p9_names.specs.declared.table.LinkFault.TheVariants as links
-use Rattle.p9_names.specs.Answers.{linked, Joins}
+use Rattle.p9_abs.specs.BuiltIn.{linked}
+use Rattle.p9_names.specs.Answers.{Joins}
 use Rattle.p9_names.proofs.Exactness.{joined_exactly}
 use Rattle.p9_r3k.specs.Machine.{State, exit_text}
 use Rattle.p9_base.specs.declared.halt.Ending.{Ending}

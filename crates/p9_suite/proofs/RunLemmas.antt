@@ -8,7 +8,7 @@ use Rattle.p9_base.specs.declared.outside.FileFault.TheVariants as fault
 use Rattle.p9_base.specs.Calls.{StreamCall, OnStream, OnFiles, Objects, Doing, Did}
 use Rattle.p9_base.proofs.CallLemmas.{objects_of, Did-append, Did-streams}
 use Rattle.p9_aout.specs.Image.{ImageParts, image_of}
-use Rattle.p9_lang.specs.Form.{IsFile}
+use Rattle.p9_first.specs.Form.{IsFile}
 use Rattle.p9_form.specs.declared.file.File.{File}
 use Rattle.p9_form.specs.Items.{items_of}
 use Rattle.p9_form.specs.Spelling.{HasNoForm}

@@ -2,16 +2,17 @@
 use Rattle.std.specs.Prelude.{◌≡◌, ◌≢◌, ◌≤◌, ◌⊎◌, ◌↔◌, ℕ, List, [], ◌∷◌, ◌++◌, map, Option, Some, None, IfSome, IsSomeAnd}
 use Rattle.p9_base.specs.Outside.{Held}
 use Rattle.p9_lang.specs.declared.module.Module.{Module}
-use Rattle.p9_lang.specs.Trees.{row_of}
-use Rattle.p9_lang.specs.Modules.{IsModule}
-use Rattle.p9_cmean.specs.Turns as outcome
-use Rattle.p9_cmean.specs.CRun.{source_run, crun}
+use Rattle.p9_first.specs.Trees.{row_of}
+use Rattle.p9_first.specs.Modules.{IsModule}
+use Rattle.p9_first.specs.Turns as outcome
+use Rattle.p9_first.specs.CRun.{source_run, crun}
 use Rattle.p9_form.specs.declared.file.File.{File}
 use Rattle.p9_form.specs.Items.{items_of, source_of}
 use Rattle.p9_form.specs.Spelling.{HasForm, HasNoForm}
 use Rattle.p9_names.specs.declared.table.LinkFault.{LinkFault}
 use Rattle.p9_names.specs.declared.table.LinkFault.TheVariants as links
-use Rattle.p9_names.specs.Answers.{linked, Joins}
+use Rattle.p9_abs.specs.BuiltIn.{linked}
+use Rattle.p9_names.specs.Answers.{Joins}
 use Rattle.p9_share.specs.Symbols.{module_of}
 use Rattle.p9_straight.specs.Headline.{KeepsMeaning, AreDefined}
 use Rattle.p9_vi.specs.Run.{HasExited, IsRunning}

@@ -3,8 +3,8 @@ use Rattle.std.specs.Prelude.{◌≡◌, ◌⊎◌, ℕ, List, ◌∷◌, ◌++�
 use Rattle.p9_base.specs.Outside.{FileCall}
 use Rattle.p9_base.specs.Calls.{StreamCall, OnStream, OnFiles, Objects, Doing, Did}
 use Rattle.p9_lang.specs.declared.module.Module.{Module}
-use Rattle.p9_cmean.specs.Turns as outcome
-use Rattle.p9_cmean.specs.CRun.{source_run, crun}
+use Rattle.p9_first.specs.Turns as outcome
+use Rattle.p9_first.specs.CRun.{source_run, crun}
 use Rattle.p9_form.specs.declared.file.File.{File}
 use Rattle.p9_form.specs.Items.{source_of}
 use Rattle.p9_straight.specs.Headline.{KeepsMeaning, AreDefined}

@@ -1,6 +1,6 @@
 // The reads of `run`.
 ghost use Rattle.std.specs.Prelude.{◌≡◌, ◌≤◌, length, All, IfOk, IfErr};
-ghost use Rattle.p9_lang.specs.Form.{IsFile};
+ghost use Rattle.p9_first.specs.Form.{IsFile};
 ghost use Rattle.p9_form.specs.Items.{items_of};
 ghost use Rattle.p9_form.specs.Sharing.{IsSmall};
 ghost use Rattle.p9_suite.specs.RunCommand.{StoreReads, StoreReadsOne, StoreStops, StoreStopsAt};

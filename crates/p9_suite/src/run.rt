@@ -1,6 +1,6 @@
 // The command `run`.
 ghost use Rattle.std.specs.Prelude.{◌≡◌, ◌≤◌, List, ℕ, Some, length, All, IfOk, IfErr};
-ghost use Rattle.p9_lang.specs.Form.{IsFile};
+ghost use Rattle.p9_first.specs.Form.{IsFile};
 ghost use Rattle.p9_form.specs.Items.{items_of};
 ghost use Rattle.p9_form.specs.Sharing.{IsSmall};
 ghost use Rattle.p9_base.specs.Streams.{Told};

@@ -1,4 +1,0 @@
-pub mod Nodes
-pub mod Sources
-pub mod Examples
-pub mod Labels
