@@ -10,3 +10,5 @@ pub mod Runs
 pub mod OneCall
 pub mod Framed
 pub mod Keeping
+pub mod Programs
+pub mod Laws
