@@ -1,2 +1,3 @@
 pub mod Composing
 pub mod Reaching
+pub mod BuiltInValid
