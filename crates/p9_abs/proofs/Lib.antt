@@ -1,3 +1,5 @@
 pub mod Composing
 pub mod Reaching
 pub mod BuiltInValid
+pub mod Computed
+pub mod LiveExample

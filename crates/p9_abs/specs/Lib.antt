@@ -12,3 +12,4 @@ pub mod Framed
 pub mod Keeping
 pub mod Programs
 pub mod Laws
+pub mod Examples
