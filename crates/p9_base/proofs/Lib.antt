@@ -3,3 +3,4 @@ pub mod CallLemmas
 pub mod CallLists
 pub mod Pieces
 pub mod Bringing
+pub mod Orders

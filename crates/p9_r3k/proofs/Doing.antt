@@ -1,13 +1,11 @@
 -- Which effects each instruction may have.
-use Rattle.std.proofs.Common.{ℕ, ◌==◌, ◌&&◌, ◌≡◌, ◌⊎◌, inl, inr, Bool, true, false, refl, if◌then◌else◌, nat_le}
-use Rattle.p9_base.specs.declared.halt.HaltCause.{HaltCause}
+use Rattle.std.proofs.Common.{◌&&◌, ◌≡◌, inl, inr, Bool, true, false, refl, if◌then◌else◌}
 use Rattle.p9_base.specs.declared.halt.Effect.{Effect}
-use Rattle.p9_base.specs.declared.halt.Effect.TheVariants as effects
 use Rattle.p9_r3k.specs.declared.inst.Inst.{Inst}
 use Rattle.p9_r3k.specs.declared.inst.Inst.TheVariants.{J, Jal, Beq, Bne, Blez, Bgtz, Bltz, Bgez, Bltzal, Bgezal, Addi, Addiu, Slti, Sltiu, Andi, Ori, Xori, Lui, Lb, Lh, Lw, Lbu, Lhu, Sb, Sh, Sw, Sll, Srl, Sra, Sllv, Srlv, Srav, Jr, Jalr, Syscall, Break, Mfhi, Mthi, Mflo, Mtlo, Mult, Multu, Div, Divu, Add, Addu, Sub, Subu, And, Or, Xor, Nor, Slt, Sltu}
 use Rattle.p9_base.specs.Core.{Core}
-use Rattle.p9_r3k.specs.Effects.{effect_of, reads_pair, writes_pair, branches}
-use Rattle.p9_r3k.specs.Uses.{loads, links, delays}
+use Rattle.p9_r3k.specs.Effects.{effect_of, reads_pair, writes_pair}
+use Rattle.p9_r3k.specs.Uses.{links, delays}
 use Rattle.p9_r3k.specs.UseLaws.{MayDo}
 
 pub may_choose : (i : Inst) (b : Bool) (x y : Effect) → MayDo i x → MayDo i y → MayDo i (if b then x else y)
@@ -184,59 +182,59 @@ readers_are_quick (Nor rs rt rd) = refl
 readers_are_quick (Slt rs rt rd) = refl
 readers_are_quick (Sltu rs rt rd) = refl
 
--- a call is a branch or jump
-pub calls_branch : (i : Inst) → links i ≡ true → branches i ≡ true
-calls_branch (J index) h = refl
-calls_branch (Jal index) h = refl
-calls_branch (Beq rs rt imm) h = refl
-calls_branch (Bne rs rt imm) h = refl
-calls_branch (Blez rs imm) h = refl
-calls_branch (Bgtz rs imm) h = refl
-calls_branch (Bltz rs imm) h = refl
-calls_branch (Bgez rs imm) h = refl
-calls_branch (Bltzal rs imm) h = refl
-calls_branch (Bgezal rs imm) h = refl
-calls_branch (Addi rs rt imm) h = h
-calls_branch (Addiu rs rt imm) h = h
-calls_branch (Slti rs rt imm) h = h
-calls_branch (Sltiu rs rt imm) h = h
-calls_branch (Andi rs rt imm) h = h
-calls_branch (Ori rs rt imm) h = h
-calls_branch (Xori rs rt imm) h = h
-calls_branch (Lui rt imm) h = h
-calls_branch (Lb rs rt imm) h = h
-calls_branch (Lh rs rt imm) h = h
-calls_branch (Lw rs rt imm) h = h
-calls_branch (Lbu rs rt imm) h = h
-calls_branch (Lhu rs rt imm) h = h
-calls_branch (Sb rs rt imm) h = h
-calls_branch (Sh rs rt imm) h = h
-calls_branch (Sw rs rt imm) h = h
-calls_branch (Sll rt rd sh) h = h
-calls_branch (Srl rt rd sh) h = h
-calls_branch (Sra rt rd sh) h = h
-calls_branch (Sllv rs rt rd) h = h
-calls_branch (Srlv rs rt rd) h = h
-calls_branch (Srav rs rt rd) h = h
-calls_branch (Jr rs) h = refl
-calls_branch (Jalr rs rd) h = refl
-calls_branch (Syscall code) h = h
-calls_branch (Break code) h = h
-calls_branch (Mfhi rd) h = h
-calls_branch (Mthi rs) h = h
-calls_branch (Mflo rd) h = h
-calls_branch (Mtlo rs) h = h
-calls_branch (Mult rs rt) h = h
-calls_branch (Multu rs rt) h = h
-calls_branch (Div rs rt) h = h
-calls_branch (Divu rs rt) h = h
-calls_branch (Add rs rt rd) h = h
-calls_branch (Addu rs rt rd) h = h
-calls_branch (Sub rs rt rd) h = h
-calls_branch (Subu rs rt rd) h = h
-calls_branch (And rs rt rd) h = h
-calls_branch (Or rs rt rd) h = h
-calls_branch (Xor rs rt rd) h = h
-calls_branch (Nor rs rt rd) h = h
-calls_branch (Slt rs rt rd) h = h
-calls_branch (Sltu rs rt rd) h = h
+-- a call has a delay, and doesn't read HI or LO
+pub calls_delay : (i : Inst) → links i ≡ true → (delays i ≡ true) × (reads_pair i ≡ false)
+calls_delay (J index) h = absurd (let z : false ≡ true = h in cc)
+calls_delay (Jal index) h = (refl, refl)
+calls_delay (Beq rs rt imm) h = absurd (let z : false ≡ true = h in cc)
+calls_delay (Bne rs rt imm) h = absurd (let z : false ≡ true = h in cc)
+calls_delay (Blez rs imm) h = absurd (let z : false ≡ true = h in cc)
+calls_delay (Bgtz rs imm) h = absurd (let z : false ≡ true = h in cc)
+calls_delay (Bltz rs imm) h = absurd (let z : false ≡ true = h in cc)
+calls_delay (Bgez rs imm) h = absurd (let z : false ≡ true = h in cc)
+calls_delay (Bltzal rs imm) h = (refl, refl)
+calls_delay (Bgezal rs imm) h = (refl, refl)
+calls_delay (Addi rs rt imm) h = absurd (let z : false ≡ true = h in cc)
+calls_delay (Addiu rs rt imm) h = absurd (let z : false ≡ true = h in cc)
+calls_delay (Slti rs rt imm) h = absurd (let z : false ≡ true = h in cc)
+calls_delay (Sltiu rs rt imm) h = absurd (let z : false ≡ true = h in cc)
+calls_delay (Andi rs rt imm) h = absurd (let z : false ≡ true = h in cc)
+calls_delay (Ori rs rt imm) h = absurd (let z : false ≡ true = h in cc)
+calls_delay (Xori rs rt imm) h = absurd (let z : false ≡ true = h in cc)
+calls_delay (Lui rt imm) h = absurd (let z : false ≡ true = h in cc)
+calls_delay (Lb rs rt imm) h = absurd (let z : false ≡ true = h in cc)
+calls_delay (Lh rs rt imm) h = absurd (let z : false ≡ true = h in cc)
+calls_delay (Lw rs rt imm) h = absurd (let z : false ≡ true = h in cc)
+calls_delay (Lbu rs rt imm) h = absurd (let z : false ≡ true = h in cc)
+calls_delay (Lhu rs rt imm) h = absurd (let z : false ≡ true = h in cc)
+calls_delay (Sb rs rt imm) h = absurd (let z : false ≡ true = h in cc)
+calls_delay (Sh rs rt imm) h = absurd (let z : false ≡ true = h in cc)
+calls_delay (Sw rs rt imm) h = absurd (let z : false ≡ true = h in cc)
+calls_delay (Sll rt rd sh) h = absurd (let z : false ≡ true = h in cc)
+calls_delay (Srl rt rd sh) h = absurd (let z : false ≡ true = h in cc)
+calls_delay (Sra rt rd sh) h = absurd (let z : false ≡ true = h in cc)
+calls_delay (Sllv rs rt rd) h = absurd (let z : false ≡ true = h in cc)
+calls_delay (Srlv rs rt rd) h = absurd (let z : false ≡ true = h in cc)
+calls_delay (Srav rs rt rd) h = absurd (let z : false ≡ true = h in cc)
+calls_delay (Jr rs) h = absurd (let z : false ≡ true = h in cc)
+calls_delay (Jalr rs rd) h = (refl, refl)
+calls_delay (Syscall code) h = absurd (let z : false ≡ true = h in cc)
+calls_delay (Break code) h = absurd (let z : false ≡ true = h in cc)
+calls_delay (Mfhi rd) h = absurd (let z : false ≡ true = h in cc)
+calls_delay (Mthi rs) h = absurd (let z : false ≡ true = h in cc)
+calls_delay (Mflo rd) h = absurd (let z : false ≡ true = h in cc)
+calls_delay (Mtlo rs) h = absurd (let z : false ≡ true = h in cc)
+calls_delay (Mult rs rt) h = absurd (let z : false ≡ true = h in cc)
+calls_delay (Multu rs rt) h = absurd (let z : false ≡ true = h in cc)
+calls_delay (Div rs rt) h = absurd (let z : false ≡ true = h in cc)
+calls_delay (Divu rs rt) h = absurd (let z : false ≡ true = h in cc)
+calls_delay (Add rs rt rd) h = absurd (let z : false ≡ true = h in cc)
+calls_delay (Addu rs rt rd) h = absurd (let z : false ≡ true = h in cc)
+calls_delay (Sub rs rt rd) h = absurd (let z : false ≡ true = h in cc)
+calls_delay (Subu rs rt rd) h = absurd (let z : false ≡ true = h in cc)
+calls_delay (And rs rt rd) h = absurd (let z : false ≡ true = h in cc)
+calls_delay (Or rs rt rd) h = absurd (let z : false ≡ true = h in cc)
+calls_delay (Xor rs rt rd) h = absurd (let z : false ≡ true = h in cc)
+calls_delay (Nor rs rt rd) h = absurd (let z : false ≡ true = h in cc)
+calls_delay (Slt rs rt rd) h = absurd (let z : false ≡ true = h in cc)
+calls_delay (Sltu rs rt rd) h = absurd (let z : false ≡ true = h in cc)

@@ -1,5 +1,5 @@
 -- What touches data and stack alone is the same with the text and without.
-use Rattle.std.proofs.Common.{ℕ, zero, suc, ◌+◌, ◌-◌, ◌%◌, ◌==◌, ◌≡◌, ◌≤◌, ◌<◌, ◌||◌, nat_lt, nat_le, Bool, true, false, not, Option, Result, Ok, Err, refl, sym, ap, ◌∙◌, subst, arith, if◌then◌else◌, List, [], position}
+use Rattle.std.proofs.Common.{ℕ, zero, suc, ◌+◌, ◌-◌, ◌%◌, ◌==◌, ◌≡◌, ◌≤◌, ◌<◌, ◌||◌, nat_lt, nat_le, Bool, true, false, not, Ok, Err, refl, sym, ap, ◌∙◌, subst, arith, if◌then◌else◌, [], position}
 use Rattle.std.proofs.lemmas.Bool.Decides.{nat_tests}
 use Rattle.p9_base.specs.Words.{is_negative, word_sum}
 use Rattle.p9_base.specs.Numbers.{sign_extended}
@@ -9,7 +9,7 @@ use Rattle.p9_base.specs.declared.halt.Effect.{Effect}
 use Rattle.p9_base.specs.declared.halt.Effect.TheVariants as effects
 use Rattle.p9_base.specs.declared.halt.Asked.{Asked}
 use Rattle.p9_base.specs.declared.halt.Asked.TheVariants as asks
-use Rattle.p9_base.specs.Core.{Core, text_start, stack_start, stack_end, low_end, reg, readable, writable, read_byte, read_half, read_word, bytes_from}
+use Rattle.p9_base.specs.Core.{Core, text_start, stack_start, stack_end, low_end, reg, readable, read_byte, read_half, read_word, bytes_from}
 use Rattle.p9_base.specs.Effects.{address, load_byte, load_half, load_word}
 use Rattle.p9_base.specs.SystemCalls.{argument, then_one, then_three, exits_of, asked_exits, asked_read, asked_write, asked}
 use Rattle.p9_r3k.specs.declared.inst.Inst.{Inst}

@@ -81,3 +81,10 @@ enter moved count i = least count (drop i moved)
 -- each old line has the address at which it is entered
 abbrev pub entered : (moved : List ℕ) → (count : ℕ) → (symbol : ℕ → ℕ → ℕ) → Addresses
 entered moved count symbol = record { line = λ i. line_address (enter moved count i); symbol = symbol }
+
+-- Runs without a stop
+
+abbrev pub NotHalted : Ending → Type 0
+NotHalted Running = Unit {0}
+NotHalted (Exited at len) = Unit {0}
+NotHalted (Halted cause pc) = ⊥

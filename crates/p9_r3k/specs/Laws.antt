@@ -44,7 +44,7 @@ pub record LaidOut (c : Core) : Type 0 where
   pub above : low_end c ≤ stack_start
   pub stack_size : length c.stack ≡ stack_end - stack_start
 
--- the byte order, the places and the sizes are the same, and so is every byte below the data
+-- the byte order, the addresses and the sizes are the same, and so is every byte below the data
 pub record KeepsText (c d : Core) : Type 0 where
   pub order : d.order ≡ c.order
   pub text_end : d.text_end ≡ c.text_end

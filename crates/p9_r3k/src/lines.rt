@@ -1,7 +1,7 @@
 // Lines of a program before its addresses are known.
 
 use crate::inst::Inst;
-use std::alloc::Global;
+use std::marker::Model;
 
 /// Which piece of an address a line takes: the half words of LUI and ORI or of a load or store, or the
 /// index of a jump. The upper half is the address without its lower 16 bits, not adjusted for a lower
@@ -39,4 +39,13 @@ pub struct Line {
 #[derive(Drop)]
 pub struct Lines {
     pub list: Vec<Line>,
+}
+
+impl Model for Lines {
+    ghost use Rattle.std.specs.Prelude.{List};
+    ghost use Rattle.p9_r3k.specs.declared.lines.Line.{Line};
+
+    ghost Value = { List Line };
+
+    ghost view = { λ l. l.list.items };
 }
