@@ -1,0 +1,10 @@
+pub mod Names
+pub mod Trees
+pub mod Types
+pub mod Layout
+pub mod Members
+pub mod Agreement
+pub mod Conversions
+pub mod Rules
+pub mod Modules
+pub mod Constants
