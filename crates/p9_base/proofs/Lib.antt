@@ -1,4 +1,5 @@
 pub mod Shifts
+pub mod Holding
 pub mod CallLemmas
 pub mod CallLists
 pub mod Pieces

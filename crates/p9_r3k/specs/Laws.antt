@@ -1,11 +1,11 @@
 -- Laws of the machines' runs.
-use Rattle.std.specs.Prelude.{ℕ, ◌+◌, ◌-◌, ◌^◌, ◌≡◌, ◌≤◌, ◌<◌, ◌++◌, List, length, take, All}
+use Rattle.std.specs.Prelude.{ℕ, ◌+◌, ◌-◌, ◌^◌, ◌≡◌, ◌≤◌, ◌++◌, List, length, take}
 pub use Rattle.p9_base.specs.Holding.{AreWords, AreBytes, HoldsWords}
 use Rattle.p9_base.specs.Numbers.{word_at}
 use Rattle.p9_base.specs.declared.halt.Ending.{Ending}
 use Rattle.p9_base.specs.declared.halt.Ending.TheVariants.{Running, Exited, Halted}
 use Rattle.p9_r3k.specs.declared.lines.Line.{Line}
-use Rattle.p9_r3k.specs.Memory.{Core, text_start, stack_start, stack_end, reg, low_end, read_word}
+use Rattle.p9_r3k.specs.Memory.{Core, text_start, stack_start, stack_end, low_end, read_word}
 use Rattle.p9_r3k.specs.Machine.{State, run}
 use Rattle.p9_r3k.specs.Start.{start}
 use Rattle.p9_r3k.specs.Pending.{Pending, settled, pending_run}
