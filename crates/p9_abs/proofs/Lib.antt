@@ -3,3 +3,5 @@ pub mod Reaching
 pub mod BuiltInValid
 pub mod Computed
 pub mod LiveExample
+pub mod Walking
+pub mod StepLaws
