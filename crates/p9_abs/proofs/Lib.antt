@@ -5,3 +5,4 @@ pub mod Computed
 pub mod LiveExample
 pub mod Walking
 pub mod StepLaws
+pub mod Fixed

@@ -44,7 +44,7 @@ pub step-by : (around : Around) (code : List Abs) (x : Mach) (G : Step → Type 
 unfolding step
 step-by around code x G none go = at-each around x G (slice_get code x.at) none go
 
-ended-by : (P : Mach → Type 0) (e : Ending) (y : Mach) → P y → IfMach P (ended e y)
+pub ended-by : (P : Mach → Type 0) (e : Ending) (y : Mach) → P y → IfMach P (ended e y)
 ended-by P Running y h = h
 ended-by P (Exited at n) y h = h
 ended-by P (Halted cause pc) y h = tt

@@ -66,7 +66,8 @@ StackStays =
 -- a byte of the stack that is banned is left as it was
 abbrev pub BannedStay : Type 0
 BannedStay =
-    (around : Around) (code : List Abs) (x : Mach) (b : ℕ) → stack_start ≤ b → around.banned b ≡ true →
+    (around : Around) (code : List Abs) (x : Mach) (b : ℕ) →
+    (let from : Mach = without_text x in LaidOut from.state.core) → stack_start ≤ b → around.banned b ≡ true →
     IfMach (λ y. read_byte y.state.core b ≡ read_byte x.state.core b) (step around code x)
 
 -- Code over automatics

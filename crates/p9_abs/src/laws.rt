@@ -1,7 +1,17 @@
 // What holds of abstract code, as contracts of functions that do nothing.
 
-ghost use Rattle.p9_abs.specs.Laws.{ReachedByWays, KeepsCompose};
+ghost use Rattle.p9_abs.specs.Laws.{MemoryStays, WordsStay, SilentSteps, StackStays, BannedStay, ReachedByWays, KeepsCompose};
 ghost use Rattle.p9_abs.specs.Examples.{KeptWordIsBanned, KeptWordIsFreedByReturn, OutsideIsUndefined, MisalignedIsUndefined, OverflowIsUndefined, DivisionIsUndefined, CallOfNoFunction, FloorIsUndefined, SystemStopIsUndefined, GapIsUndefined, LiveWhereRead, RegionOfStoreAndRead, CostByDepth};
+
+/// What each step leaves: memory's sizes and the bytes below the data; words and bytes; output and
+/// input, but for a system call; R29 to R31; the bytes of the stack that may not be touched.
+pub fn step_laws()
+    ensures memory { MemoryStays }
+    ensures words { WordsStay }
+    ensures silent { SilentSteps }
+    ensures stack { StackStays }
+    ensures banned { BannedStay }
+{}
 
 /// Code over automatics: what can be reached, and code that keeps the meaning of code that does.
 pub fn code_laws()
