@@ -4,6 +4,7 @@
 
 mod forms;
 mod instructions;
+mod laws;
 mod modules;
 mod regions;
 mod weights;
@@ -13,6 +14,7 @@ pub use forms::{
     form_of, operand_kind,
 };
 pub use instructions::{AFunction, Abs, Autos, Code, Depths, Op, Operand, Operands, TextDef};
+pub use laws::{code_laws, live_examples, step_laws, undefined_examples};
 pub use modules::{AModule, Body, DataPiece, Def, Pieces, Symbol, Symbols};
 pub use regions::{Homes, Points, Region, Regions};
 pub use weights::{weight, words_of};
