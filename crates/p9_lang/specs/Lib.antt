@@ -11,6 +11,10 @@ pub mod Constants
 pub mod Expressions
 pub mod Scopes
 pub mod Declarators
+pub mod Parts
+pub mod Entries
+pub mod Opening
+pub mod Declaring
 pub mod Typing
 pub mod Files
 pub mod Initialisers
