@@ -19,3 +19,6 @@ pub mod Typing
 pub mod Files
 pub mod Initialisers
 pub mod Symbols
+pub mod ExampleTrees
+pub mod RefusedFiles
+pub mod TypedFiles

@@ -172,8 +172,10 @@ pub data SymbolKind : Type 0 where
   Data : (first : List Write) → SymbolKind
   Common : SymbolKind
 
+-- the number is that of a text or block static
 pub record Symbol : Type 0 where
   pub name : List ℕ
+  pub static : Option ℕ
   pub is_local : Bool
   pub type : TypeTree
   pub kind : SymbolKind
@@ -204,6 +206,7 @@ first_type otherwise (d ∷ ds) = d.type
 abbrev pub symbol_of : Source → List ℕ → Symbol
 symbol_of source name = record {
   name = name;
+  static = None;
   is_local = is_among source.statics name;
   type = first_type (system_type name) (declarations_of name (declarations source.items));
   kind = kind_of source.tags (is_among (uses_in_row source.items) name) (declarations_of name (declarations source.items));
@@ -242,6 +245,7 @@ local_kind (Some first) = Data first
 abbrev pub local_symbol : LocalObject → Symbol
 local_symbol object = record {
   name = codes "." ++ decimal object.number;
+  static = Some object.number;
   is_local = true;
   type = object.type;
   kind = local_kind object.first;
