@@ -1,6 +1,26 @@
 // Laws of the definitions in `specs/`. Each function does nothing; its contract is the law.
+ghost use Rattle.p9_lang.specs.LayoutExamples.{Agreements, Layouts, WordOperations};
 ghost use Rattle.p9_lang.specs.RefusedFiles.{Refusals};
 ghost use Rattle.p9_lang.specs.TypedFiles.{TypedFiles};
+
+/// Sizes and alignments of structures, unions and arrays; members by their names, and through
+/// unnamed substructures.
+#[tactic(auto, using(crate::proofs::Examples::layouts))]
+pub fn layouts()
+    ensures { Layouts }
+{}
+
+/// Division, shifts, comparisons and narrowing of words.
+#[tactic(auto, using(crate::proofs::Examples::word_operations))]
+pub fn word_operations()
+    ensures { WordOperations }
+{}
+
+/// A list's structure agrees with that of another module, and doesn't where a member is renamed.
+#[tactic(auto, using(crate::proofs::Examples::agreements))]
+pub fn agreements()
+    ensures { Agreements }
+{}
 
 /// Small files that break a rule each, with the node and the rule that are told.
 #[tactic(auto, using(crate::proofs::Examples::refusals))]
