@@ -1,5 +1,6 @@
 // Laws of the definitions in `specs/`. Each function does nothing; its contract is the law.
 ghost use Rattle.p9_lang.specs.LayoutExamples.{Agreements, Layouts, WordOperations};
+ghost use Rattle.p9_lang.specs.Laws.{LayoutIsThatOfMembers, LayoutsStay};
 ghost use Rattle.p9_lang.specs.RefusedFiles.{Refusals};
 ghost use Rattle.p9_lang.specs.TypedFiles.{TypedFiles};
 
@@ -33,4 +34,16 @@ pub fn refusals()
 #[tactic(auto, using(crate::proofs::Examples::typed_files))]
 pub fn typed_files()
     ensures { TypedFiles }
+{}
+
+/// Where no structure contains itself, the extent of each is that of its members.
+#[tactic(auto, using(crate::proofs::Layouts::layout_is_that_of_members))]
+pub fn layout_is_that_of_members()
+    ensures { LayoutIsThatOfMembers }
+{}
+
+/// A complete type keeps its size and alignment when more structures and bodies come.
+#[tactic(auto, using(crate::proofs::Layouts::layouts_stay))]
+pub fn layouts_stay()
+    ensures { LayoutsStay }
 {}
