@@ -1,6 +1,6 @@
 // Laws of the definitions in `specs/`. Each function does nothing; its contract is the law.
 ghost use Rattle.p9_lang.specs.LayoutExamples.{Agreements, Layouts, WordOperations};
-ghost use Rattle.p9_lang.specs.Laws.{LayoutIsThatOfMembers, LayoutsStay};
+ghost use Rattle.p9_lang.specs.Laws.{AgreementIsDecided, LayoutIsThatOfMembers, LayoutsStay};
 ghost use Rattle.p9_lang.specs.RefusedFiles.{Refusals};
 ghost use Rattle.p9_lang.specs.TypedFiles.{TypedFiles};
 
@@ -46,4 +46,10 @@ pub fn layout_is_that_of_members()
 #[tactic(auto, using(crate::proofs::Layouts::layouts_stay))]
 pub fn layouts_stay()
     ensures { LayoutsStay }
+{}
+
+/// Types that agree to the depth at which `agrees` looks agree to every depth.
+#[tactic(auto, using(crate::proofs::Agreeing::agreement_is_decided))]
+pub fn agreement_is_decided()
+    ensures { AgreementIsDecided }
 {}
