@@ -1,6 +1,10 @@
 //! What C programs mean: the operations that are undefined, and where they stand.
 #![tactic(auto)]
 
+mod laws;
+
+pub use laws::{bind_is_associative, calls_take_turns, depth_is_enough, loops_follow, loops_last};
+
 /// An operation that C leaves undefined.
 #[derive(Clone, Copy, Debug, PartialEq, Eq, Drop)]
 pub enum Cause {

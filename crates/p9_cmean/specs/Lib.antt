@@ -1,0 +1,13 @@
+pub mod Cells
+pub mod Plays
+pub mod Turns
+pub mod Access
+pub mod Contents
+pub mod Operators
+pub mod Places
+pub mod SystemCalls
+pub mod Automatics
+pub mod Expressions
+pub mod Declarations
+pub mod Statements
+pub mod PlayLaws
