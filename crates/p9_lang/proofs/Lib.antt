@@ -2,3 +2,4 @@ pub mod Examples
 pub mod Layouts
 pub mod Settling
 pub mod Agreeing
+pub mod Counting

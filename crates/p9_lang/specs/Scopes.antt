@@ -218,9 +218,9 @@ tagged_as keyword name has_body s =
     keyword name has_body s
 
 -- the body of a structure is complete
+abbrev pub with_body : ℕ → List MemberTree → Option TagTree → Tags → Tags
+with_body number members None tags = tags
+with_body number members (Some tag) tags = slice_set tags number (record tag { members = Some members })
+
 abbrev pub complete_tag : ℕ → List MemberTree → Known → Known
-complete_tag number members s = by (slice_get s.tags number)
-  where
-    by : Option TagTree → Known
-    by None = s
-    by (Some tag) = record s { tags = slice_set s.tags number (record tag { members = Some members }) }
+complete_tag number members s = record s { tags = with_body number members (slice_get s.tags number) s.tags }

@@ -3,6 +3,7 @@ ghost use Rattle.p9_lang.specs.LayoutExamples.{Agreements, Layouts, WordOperatio
 ghost use Rattle.p9_lang.specs.Laws.{AgreementIsDecided, LayoutIsThatOfMembers, LayoutsStay};
 ghost use Rattle.p9_lang.specs.RefusedFiles.{Refusals};
 ghost use Rattle.p9_lang.specs.TypedFiles.{TypedFiles};
+ghost use Rattle.p9_lang.specs.TypingLaws.{EachNodeIsTyped};
 
 /// Sizes and alignments of structures, unions and arrays; members by their names, and through
 /// unnamed substructures.
@@ -52,4 +53,10 @@ pub fn layouts_stay()
 #[tactic(auto, using(crate::proofs::Agreeing::agreement_is_decided))]
 pub fn agreement_is_decided()
     ensures { AgreementIsDecided }
+{}
+
+/// A file that is typed has one type and one meaning for each of its nodes.
+#[tactic(auto, using(crate::proofs::Counting::each_node_is_typed))]
+pub fn each_node_is_typed()
+    ensures { EachNodeIsTyped }
 {}
