@@ -1,0 +1,5 @@
+pub mod Examples
+pub mod Layouts
+pub mod Settling
+pub mod Agreeing
+pub mod Counting
