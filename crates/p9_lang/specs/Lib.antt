@@ -8,3 +8,8 @@ pub mod Conversions
 pub mod Rules
 pub mod Modules
 pub mod Constants
+pub mod Expressions
+pub mod Scopes
+pub mod Declarators
+pub mod Typing
+pub mod Files
