@@ -18,7 +18,7 @@ use Rattle.p9_cmean.specs.Declarations.{declared_by, declared_in, declaration_of
 use Rattle.p9_cmean.specs.Expressions.{Surroundings, at, value}
 use Rattle.p9_cmean.specs.Statements as st
 use Rattle.p9_cmean.specs.Statements.{statement, statements, statements_from, for_loop}
-use Rattle.p9_cmean.proofs.Plays.{follows_refl, follows_less, follows_bind, follows_then, follows_if, follows_go, loops_follow, lasts_less, lasts_bind, lasts_done, loops_last}
+use Rattle.p9_cmean.proofs.Plays.{follows_refl, follows_less, follows_bind, follows_then, follows_if, follows_go, loops_follow, tested_loops_follow, lasts_less, lasts_bind, lasts_done, loops_last}
 use Rattle.p9_cmean.proofs.Going.{goes_refl, goes_trans, Keeps, keeps_from, keeps_bind, turns_keep}
 use Rattle.p9_cmean.proofs.Throughout.{p_body}
 
@@ -41,12 +41,23 @@ keeps_body turns around definition call s =
 abbrev LastsFor : (turns : ℕ) → (A : Type 0) → State → Play A → Type 0
 LastsFor turns A s p = Lasts turns p
 
+lasts_turns : (turns : ℕ) (loop : Loop) → ((s : State) → Lasts (suc turns) (loop.test s)) → ((s : State) → Lasts (suc turns) (loop.body s)) → ((s : State) → Lasts (suc turns) (loop.step s))
+    → (s : State) → Lasts (suc turns) (turn_of turns loop s)
+lasts_turns turns loop ht hb hs s =
+    loops_last turns loop
+    (record {
+      tests = λ t. lasts_less (loop.test t) (suc turns) turns (omega arith) (ht t);
+      bodies = λ t. lasts_less (loop.body t) (suc turns) turns (omega arith) (hb t);
+      steps = λ t. lasts_less (loop.step t) (suc turns) turns (omega arith) (hs t);
+    })
+    s
+
 pub lasts_body : (turns : ℕ) (around : Surroundings) (definition : Definition) (call : Call) (s : State) → Lasts (suc turns) (st.function_body turns around definition call s)
 lasts_body turns around definition call s =
     p_body (LastsFor (suc turns))
     (λ A s t p g h. h) (λ A a s. tt) (λ A why pl s. tt) (λ A pl s. tt) (λ A n s p h. h)
     (λ A call s k h v t. lasts_less (k v t) (suc turns) turns (omega arith) (h v t)) turns
-    (λ loop ht hb hs s. (loops_last turns loop (record { tests = ht; bodies = hb; steps = hs }) s).0)
+    (λ loop ht hb hs s. lasts_turns turns loop ht hb hs s)
     (λ A B s p k h g. lasts_bind p k (suc turns) h g)
     around definition call s
 
@@ -79,10 +90,10 @@ module _ (m n : ℕ) (le : m ≤ n) where
   }
 
   follow_turns : (test : State → Play Bool) (step : State → Play (Unit {0})) (k l : State → Play Flow) → ((s : State) → Follows m (k s) (l s)) → (s : State) → Follows m (turn_of m (st.loop_of test step k) s) (turn_of n (st.loop_of test step l) s)
-  follow_turns test step k l h s = (loops_follow m n le (st.loop_of test step k) (st.loop_of test step l) (loop_follows test step k l h) s).0
+  follow_turns test step k l h s = (loops_follow m n le (st.loop_of test step k) (st.loop_of test step l) (loop_follows test step k l h) s)
 
   follow_loop : (test : State → Play Bool) (step : State → Play (Unit {0})) (k l : State → Play Flow) → ((s : State) → Follows m (k s) (l s)) → (s : State) → Follows m (tested_loop m (st.loop_of test step k) s) (tested_loop n (st.loop_of test step l) s)
-  follow_loop test step k l h s = (loops_follow m n le (st.loop_of test step k) (st.loop_of test step l) (loop_follows test step k l h) s).1
+  follow_loop test step k l h s = (tested_loops_follow m n le (st.loop_of test step k) (st.loop_of test step l) (loop_follows test step k l h) s)
 
   mutual
     statement_follows : (around : Surroundings) (e : Typed) (s : State) → Follows m (statement m around e s) (statement n around e s)
@@ -166,6 +177,6 @@ module _ (m n : ℕ) (le : m ≤ n) where
     where
       by : (label : Label) (i token : ℕ) (type : TypeTree) (means : Meant) (block : Typed)
           → Follows m (st.function_body m around (record { label = label; name = record { number = i; token = token; type = type; means = means }; block = block }) call s)
-            (st.function_body n around (record { label = label; name = record { number = i; token = token; type = type; means = means }; block = block }) call s)
+          (st.function_body n around (record { label = label; name = record { number = i; token = token; type = type; means = means }; block = block }) call s)
       by label i token (types.Function result parameters) means block = run_block_follows around result (row_types parameters) block call s
       by label i token type means block = refl

@@ -35,7 +35,7 @@ initialised around a s = by a.initialiser
     by (Some e) =
         or_no_meaning (at around a.name) s (pointer_to around a.name.type a.name.means) (λ p.
         bind (value around e s) (λ v t.
-            bind (assign around (at around a.name) e a.name.type (Address p) v t) (λ w u. Done tt u)))
+        bind (assign around (at around a.name) e a.name.type (Address p) v t) (λ w u. Done tt u)))
 
 abbrev pub all_initialised : Surroundings → List Automatic → State → Play (Unit {0})
 all_initialised around [] s = Done tt s

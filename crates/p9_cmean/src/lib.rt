@@ -3,7 +3,10 @@
 
 mod laws;
 
-pub use laws::{bind_is_associative, calls_take_turns, depth_is_enough, loops_follow, loops_last};
+pub use laws::{
+    bind_is_associative, calls_take_turns, depth_is_enough, loops_follow, loops_last,
+    tested_loops_follow, tested_loops_last,
+};
 
 /// An operation that C leaves undefined.
 #[derive(Clone, Copy, Debug, PartialEq, Eq, Drop)]
