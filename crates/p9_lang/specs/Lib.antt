@@ -13,3 +13,5 @@ pub mod Scopes
 pub mod Declarators
 pub mod Typing
 pub mod Files
+pub mod Initialisers
+pub mod Symbols
