@@ -265,9 +265,9 @@ module _
     p_condition : (around : Surroundings) (pl : Place) (e : Typed) (s : State) → P s (st.condition around pl e s)
     p_condition around pl e s = p_bind s (value around e s) _ (p_value around e s) (λ v t. p_test pl (operand_type e) v t)
 
-    p_initialised : (around : Surroundings) (name : Label) (e : Option Typed) (s : State) → P s (st.initialised around (record { name = name; initialiser = e }) s)
-    p_initialised around name None s = done tt s
-    p_initialised around name (Some e) s =
+    p_initialised : (around : Surroundings) (number : ℕ) (name : Label) (e : Option Typed) (s : State) → P s (st.initialised around (record { number = number; name = name; initialiser = e }) s)
+    p_initialised around number name None s = done tt s
+    p_initialised around number name (Some e) s =
         p_or_no (at around name) s (x.pointer_to around name.type name.means) _ (λ p.
         p_bind s (value around e s) _ (p_value around e s) (λ v t.
         p_bind t (x.assign around (at around name) e name.type (Address p) v t) _ (p_assign around (at around name) e name.type (Address p) v t) (λ w u. done tt u)))
@@ -275,7 +275,7 @@ module _
     p_all_initialised : (around : Surroundings) (list : List Automatic) (s : State) → P s (st.all_initialised around list s)
     p_all_initialised around [] s = done tt s
     p_all_initialised around (a ∷ others) s =
-        p_bind s (st.initialised around a s) _ (p_initialised around a.name a.initialiser s) (λ d t. p_all_initialised around others t)
+        p_bind s (st.initialised around a s) _ (p_initialised around a.number a.name a.initialiser s) (λ d t. p_all_initialised around others t)
 
     p_returned : (around : Surroundings) (pl : Place) (e : Typed) (s : State) → P s (st.returned around pl e s)
     p_returned around pl e s =
