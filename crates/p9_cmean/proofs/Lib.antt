@@ -4,3 +4,6 @@ pub mod Going
 pub mod Later
 pub mod Throughout
 pub mod Bodies
+pub mod Fitting
+pub mod Runs
+pub mod Accesses

@@ -5,26 +5,39 @@ use Rattle.p9_lang.specs.Types.{TypeTree, Tags}
 use Rattle.p9_lang.specs.Layout.{size_of}
 use Rattle.p9_lang.specs.Initialisers.{Base, OuterBase, StaticBase, Content, Word, AddressOf, Bytes, Write}
 use Rattle.p9_lang.specs.Symbols.{Symbol, SymbolKind, DeclaredOnly, Used, Code, Data, Common}
-use Rattle.p9_cmean.specs.Cells.{FunctionName, Pointer, Into, ToFunction, Cell, Unset, Byte, Part, Object}
+use Rattle.p9_cmean.specs.Cells.{FunctionName, Global, Local, Pointer, Into, ToFunction, Cell, Unset, Byte, Part, Object}
 use Rattle.p9_cmean.specs.Access.{number_cells, pointer_cells}
 use Rattle.p9_cmean.specs.Automatics.{live_object}
-use Rattle.p9_cmean.specs.Union.{Entry, Union, object_number, static_number, function_named}
+use Rattle.p9_cmean.specs.Union.{Entry, Union, object_number, static_number, is_local_function}
 
--- An address in an initialiser is that of an object, moved, or of a function.
+-- An address in an initialiser is that of an object, moved, or of a function. A module's own function
+-- hides another module's object of that name.
 
-abbrev pub object_or_function : Option ℕ → FunctionName → (offset : ℕ) → Pointer
-object_or_function (Some object) function offset = Into object offset
-object_or_function None function offset = ToFunction function
+abbrev pub into : Option ℕ → (offset : ℕ) → Option Pointer
+into None offset = None
+into (Some object) offset = Some (Into object offset)
 
-abbrev pub base_pointer : Union → (owner : ℕ) → Base → (offset : ℕ) → Pointer
-base_pointer union owner (OuterBase name) offset =
-    object_or_function (object_number union owner name) (function_named union owner name) offset
-base_pointer union owner (StaticBase number) offset =
-    object_or_function (static_number union owner number) (function_named union owner []) offset
+abbrev pub or_function : Option Pointer → FunctionName → Pointer
+or_function None function = ToFunction function
+or_function (Some pointer) function = pointer
+
+abbrev pub named_pointer : Union → (owner : ℕ) → (name : List ℕ) → (offset : ℕ) → Pointer
+named_pointer union owner name offset =
+    if is_local_function union owner name then ToFunction (Local owner name)
+    else or_function (into (object_number union owner name) offset) (Global name)
+
+abbrev pub base_pointer : Union → (owner : ℕ) → Base → (offset : ℕ) → Option Pointer
+base_pointer union owner (OuterBase name) offset = Some (named_pointer union owner name offset)
+base_pointer union owner (StaticBase number) offset = into (static_number union owner number) offset
+
+-- a text or block static is there, in a valid module
+abbrev pub address_cells : Option Pointer → List Cell
+address_cells None = number_cells 4 0
+address_cells (Some pointer) = pointer_cells pointer
 
 abbrev pub content_cells : Union → (owner : ℕ) → (size : ℕ) → Content → List Cell
 content_cells union owner size (Word word) = number_cells size word
-content_cells union owner size (AddressOf base offset) = pointer_cells (base_pointer union owner base offset)
+content_cells union owner size (AddressOf base offset) = address_cells (base_pointer union owner base offset)
 content_cells union owner size (Bytes bytes) = map Byte bytes
 
 -- A later entry writes over an earlier one. Of an address that it writes over in part, the other

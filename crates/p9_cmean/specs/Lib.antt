@@ -15,3 +15,4 @@ pub mod Union
 pub mod FirstContents
 pub mod CRun
 pub mod Joins
+pub mod RunLaws

@@ -194,6 +194,8 @@ abbrev pub found_function : FunctionName → List FunctionEntry → Option Funct
 found_function function [] = None
 found_function function (entry ∷ others) = if is_function function entry then Some entry else found_function function others
 
+abbrev pub is_local_function : Union → (owner : ℕ) → (name : List ℕ) → Bool
+is_local_function union owner name = list_any (is_function (Local owner name)) union.functions
+
 abbrev pub function_named : Union → (owner : ℕ) → (name : List ℕ) → FunctionName
-function_named union owner name =
-    if list_any (is_function (Local owner name)) union.functions then Local owner name else Global name
+function_named union owner name = if is_local_function union owner name then Local owner name else Global name
