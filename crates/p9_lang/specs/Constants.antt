@@ -1,14 +1,14 @@
 -- Constant expressions: their values, by the operations on words that C's meaning uses too.
-use Rattle.std.specs.Prelude.{ℕ, zero, suc, ◌-◌, ◌*◌, ◌/◌, ◌%◌, ◌^◌, Bool, true, false, not, ◌&&◌, ◌||◌, ◌==◌, nat_lt, nat_le, if◌then◌else◌, bit_and, bit_or, bit_xor, List, [], ◌∷◌, Result, Ok, Err}
+use Rattle.std.specs.Prelude.{ℕ, zero, suc, ◌-◌, ◌/◌, ◌%◌, ◌^◌, Bool, true, false, not, ◌&&◌, ◌||◌, ◌==◌, nat_lt, if◌then◌else◌, bit_and, bit_or, bit_xor, List, [], ◌∷◌, Result, Ok, Err}
 use Rattle.p9_base.specs.Numbers.{sign_extended}
-use Rattle.p9_base.specs.Words.{word_sum, word_difference, word_negation, word_product, word_complement, is_negative, is_signed_less, signed_quotient, signed_remainder, shift_left, shift_right, shift_right_signed, low8, low16}
+use Rattle.p9_base.specs.Words.{word_sum, word_difference, word_negation, word_product, word_complement, is_signed_less, signed_quotient, signed_remainder, shift_left, shift_right, shift_right_signed, low8, low16}
 use Rattle.p9_lang.specs.declared.tree.CBinary.{CBinary}
 use Rattle.p9_lang.specs.declared.tree.CBinary.TheVariants as operator
 use Rattle.p9_lang.specs.declared.tree.CUnary.{CUnary}
 use Rattle.p9_lang.specs.declared.tree.CUnary.TheVariants as unary
 use Rattle.p9_lang.specs.declared.tree.Kind.{Kind}
 use Rattle.p9_lang.specs.declared.tree.Kind.TheVariants as kind
-use Rattle.p9_lang.specs.Types.{TypeTree, Void, Char, UChar, Short, UShort, Int, UInt, Long, ULong, Pointer, Array, Function, Tagged, Meant, Nothing, Outer, Static, Auto, EnumValue, TypeName, Tags}
+use Rattle.p9_lang.specs.Types.{TypeTree, Void, Char, UChar, Short, UShort, Pointer, Meant, EnumValue, Tags}
 use Rattle.p9_lang.specs.Layout.{is_within_limit, size_of}
 use Rattle.p9_lang.specs.Conversions.{is_integer, is_unsigned}
 use Rattle.p9_lang.specs.Trees.{node, none, more}

@@ -14,7 +14,7 @@ use Rattle.p9_lang.specs.Members.{Found, At, Missing, find_member}
 use Rattle.p9_lang.specs.Members as members
 use Rattle.p9_lang.specs.Conversions.{is_integer, is_pointer, is_void, is_function, is_array, is_structure, is_scalar, is_object, points_to, same_type, decayed, promoted, common, number_type, Conversion, Same, Integer, Null, Inner, No, conversion}
 use Rattle.p9_lang.specs.Conversions as conversions
-use Rattle.p9_lang.specs.Constants.{Operand, Constant, is_null_constant}
+use Rattle.p9_lang.specs.Constants.{Operand, is_null_constant}
 use Rattle.p9_lang.specs.Rules.{Rule, Malformed, Incomplete, Ambiguous, NotLvalue, BadOperands, BadAssign, NotFunction, ArgCount, NoMember, NotScalar, breaks_if, unless_rules, and_then}
 
 pub record Verdict : Type 0 where

@@ -1,16 +1,16 @@
 -- A file's module: the types and meanings that typing gives its nodes, its structures and unions,
 -- and its static names; or the rule that it breaks first.
-use Rattle.std.specs.Prelude.{◌≡◌, ℕ, zero, suc, Bool, true, false, not, ◌&&◌, if◌then◌else◌, List, [], ◌∷◌, ◌++◌, reverse, slice_get, slice_set, Option, Some, None, Result, Ok, Err}
-use Rattle.p9_lang.specs.declared.tree.Kind.{Kind}
+use Rattle.std.specs.Prelude.{◌≡◌, ℕ, zero, suc, true, not, ◌&&◌, if◌then◌else◌, List, [], ◌∷◌, ◌++◌, reverse, Result, Ok}
 use Rattle.p9_lang.specs.declared.tree.Kind.TheVariants as kind
 use Rattle.p9_lang.specs.declared.module.Module.{Module}
 use Rattle.p9_lang.specs.Names.{is_among}
-use Rattle.p9_lang.specs.Trees.{Labelled, node, Row, none, more, Syntax, SyntaxRow, row_of}
-use Rattle.p9_lang.specs.Types.{TypeTree, Meant, TagTree, Tags, types_of, all_meant, tags_of}
+use Rattle.p9_lang.specs.Trees.{node, none, more, Syntax, SyntaxRow, row_of}
+use Rattle.p9_lang.specs.Types.{TypeTree, Meant, Tags, types_of, all_meant, tags_of}
 use Rattle.p9_lang.specs.Rules.{Broken, and_then}
-use Rattle.p9_lang.specs.Scopes.{Known, Declared, TagName, Keyword, is_enumeration, known_first, innermost}
+use Rattle.p9_lang.specs.Scopes.{Known, Declared, TagName, is_enumeration, known_first, innermost}
 use Rattle.p9_lang.specs.Declarators.{is_outer}
-use Rattle.p9_lang.specs.Typing.{is_declarator, kind_at, judge_items}
+use Rattle.p9_lang.specs.Parts.{is_declarator, kind_at}
+use Rattle.p9_lang.specs.Typing.{judge_items}
 use Rattle.p9_lang.specs.Modules.{Source, typed_row}
 
 -- the functions that have bodies, by their names

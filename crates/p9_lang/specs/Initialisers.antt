@@ -1,24 +1,23 @@
 -- Initialisers of static objects: the entries of a list with what each fills, the constants that
 -- stand in them, and what they write first into an object.
-use Rattle.std.specs.Prelude.{ℕ, zero, suc, ◌+◌, ◌*◌, ◌/◌, ◌%◌, ◌^◌, Bool, true, false, not, ◌&&◌, ◌||◌, ◌==◌, nat_lt, nat_le, if◌then◌else◌, List, [], ◌∷◌, ◌++◌, length, take, flat_map, slice_get, Option, Some, None, Result, Ok, Err}
+use Rattle.std.specs.Prelude.{ℕ, suc, ◌+◌, ◌*◌, ◌%◌, Bool, true, false, not, ◌||◌, ◌==◌, nat_lt, nat_le, if◌then◌else◌, List, [], ◌∷◌, ◌++◌, length, flat_map, slice_get, Option, Some, None, Result, Ok, Err}
 use Rattle.p9_base.specs.Words.{word_sum, word_difference, word_product, word_negation, word_complement}
 use Rattle.p9_lang.specs.declared.tree.CBinary.{CBinary}
 use Rattle.p9_lang.specs.declared.tree.CBinary.TheVariants as operator
 use Rattle.p9_lang.specs.declared.tree.CUnary.{CUnary}
 use Rattle.p9_lang.specs.declared.tree.CUnary.TheVariants as unary
-use Rattle.p9_lang.specs.declared.tree.EntryBy.{EntryBy}
-use Rattle.p9_lang.specs.declared.tree.EntryBy.TheVariants as by
 use Rattle.p9_lang.specs.declared.tree.Kind.{Kind}
 use Rattle.p9_lang.specs.declared.tree.Kind.TheVariants as kind
-use Rattle.p9_lang.specs.Trees.{Labelled, node, Row, none, more}
-use Rattle.p9_lang.specs.Types.{TypeTree, Void, Pointer, Array, Function, Tagged, Tags, Meant, Nothing, Outer, Static, Auto, EnumValue, TypeName}
+use Rattle.p9_lang.specs.Trees.{node, none, more}
+use Rattle.p9_lang.specs.Types.{TypeTree, Void, Pointer, Array, Tagged, Tags, Meant, Nothing, Outer, Static, Auto, EnumValue, TypeName}
 use Rattle.p9_lang.specs.Layout.{size_of}
 use Rattle.p9_lang.specs.Members.{Placed, placed, Found, At, find_member}
 use Rattle.p9_lang.specs.Members as members
-use Rattle.p9_lang.specs.Conversions.{is_integer, is_pointer, is_array, is_function, is_character, decayed, Conversion, Same, Integer, Null, Inner, Ambiguous, No, conversion, is_unsigned}
+use Rattle.p9_lang.specs.Conversions.{is_integer, is_pointer, is_array, is_function, decayed, Conversion, Same, Integer, Null, Inner, Ambiguous, No, conversion}
 use Rattle.p9_lang.specs.Constants.{Operand, narrowed, truth, word_operation, works_unsigned, type_at, constant_of, size_constant, enumeration_constant, is_null_constant}
 use Rattle.p9_lang.specs.Constants as constants
-use Rattle.p9_lang.specs.Typing.{Part, Value, Role, Fills, EntryOf, entry_role, entry_position, filled_type}
+use Rattle.p9_lang.specs.Parts.{Part, Value, Role, Fills, EntryOf}
+use Rattle.p9_lang.specs.Entries.{entry_role, entry_position, filled_type}
 use Rattle.p9_lang.specs.Modules.{Label, Typed, TypedRow}
 
 -- ADDRESSES AND NUMBERS

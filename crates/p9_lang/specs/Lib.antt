@@ -11,7 +11,14 @@ pub mod Constants
 pub mod Expressions
 pub mod Scopes
 pub mod Declarators
+pub mod Parts
+pub mod Entries
+pub mod Opening
+pub mod Declaring
 pub mod Typing
 pub mod Files
 pub mod Initialisers
 pub mod Symbols
+pub mod ExampleTrees
+pub mod RefusedFiles
+pub mod TypedFiles

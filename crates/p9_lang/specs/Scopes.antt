@@ -1,5 +1,5 @@
 -- What is known while a file is typed: names and tags in scope, and what the nodes so far have.
-use Rattle.std.specs.Prelude.{ℕ, ◌+◌, Bool, true, false, not, ◌&&◌, ◌||◌, if◌then◌else◌, List, [], ◌∷◌, ◌++◌, length, slice_get, slice_set, Option, Some, None, codes}
+use Rattle.std.specs.Prelude.{ℕ, Bool, true, false, not, ◌&&◌, if◌then◌else◌, List, [], ◌∷◌, ◌++◌, length, slice_get, slice_set, Option, Some, None, codes}
 use Rattle.p9_lang.specs.Names.{same_name, is_nameless}
 use Rattle.p9_lang.specs.Types.{TypeTree, Void, Char, Int, Long, Pointer, Function, Meant, Outer, TagTree, Tags, MemberTree}
 use Rattle.p9_lang.specs.Types as types

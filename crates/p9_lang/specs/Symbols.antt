@@ -1,16 +1,16 @@
 -- The symbols of a module: the objects and functions of file scope, then the texts and the statics
 -- of blocks.
-use Rattle.std.specs.Prelude.{ℕ, zero, suc, ◌+◌, Bool, true, false, not, ◌&&◌, ◌||◌, if◌then◌else◌, List, [], ◌∷◌, ◌++◌, length, filter, map, filter_map, Option, Some, None, ◌==◌, codes, decimal}
+use Rattle.std.specs.Prelude.{ℕ, Bool, true, false, not, ◌&&◌, ◌||◌, if◌then◌else◌, List, [], ◌∷◌, ◌++◌, filter, map, Option, Some, None, codes, decimal}
 use Rattle.p9_lang.specs.declared.tree.Kind.{Kind}
 use Rattle.p9_lang.specs.declared.tree.Kind.TheVariants as kind
 use Rattle.p9_lang.specs.Names.{same_name, is_among}
-use Rattle.p9_lang.specs.Trees.{Labelled, node, Row, none, more}
-use Rattle.p9_lang.specs.Types.{TypeTree, Void, Array, Tags, Meant, Nothing, Outer, Static, Auto, EnumValue, TypeName}
+use Rattle.p9_lang.specs.Trees.{node, none, more}
+use Rattle.p9_lang.specs.Types.{TypeTree, Void, Tags, Meant, Nothing, Outer, Static, Auto, EnumValue, TypeName}
 use Rattle.p9_lang.specs.Conversions.{is_function}
 use Rattle.p9_lang.specs.Declarators.{storage_of, is_extern}
-use Rattle.p9_lang.specs.Typing.{is_declarator, is_some}
+use Rattle.p9_lang.specs.Parts.{is_declarator}
 use Rattle.p9_lang.specs.Scopes.{system_names, system_type}
-use Rattle.p9_lang.specs.Initialisers.{Write, Bytes, text_bytes, with_zero, first_writes}
+use Rattle.p9_lang.specs.Initialisers.{Write, Bytes, text_bytes, first_writes}
 use Rattle.p9_lang.specs.Modules.{Label, Typed, TypedRow, Source}
 
 -- WHAT DECLARATORS DECLARE
@@ -172,8 +172,10 @@ pub data SymbolKind : Type 0 where
   Data : (first : List Write) → SymbolKind
   Common : SymbolKind
 
+-- the number is that of a text or block static
 pub record Symbol : Type 0 where
   pub name : List ℕ
+  pub static : Option ℕ
   pub is_local : Bool
   pub type : TypeTree
   pub kind : SymbolKind
@@ -204,6 +206,7 @@ first_type otherwise (d ∷ ds) = d.type
 abbrev pub symbol_of : Source → List ℕ → Symbol
 symbol_of source name = record {
   name = name;
+  static = None;
   is_local = is_among source.statics name;
   type = first_type (system_type name) (declarations_of name (declarations source.items));
   kind = kind_of source.tags (is_among (uses_in_row source.items) name) (declarations_of name (declarations source.items));
@@ -242,6 +245,7 @@ local_kind (Some first) = Data first
 abbrev pub local_symbol : LocalObject → Symbol
 local_symbol object = record {
   name = codes "." ++ decimal object.number;
+  static = Some object.number;
   is_local = true;
   type = object.type;
   kind = local_kind object.first;

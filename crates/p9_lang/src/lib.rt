@@ -3,6 +3,7 @@
 #![tactic(auto)]
 
 mod ident;
+mod laws;
 mod module;
 #[cfg(test)]
 mod tests;
