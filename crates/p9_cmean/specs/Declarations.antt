@@ -5,7 +5,7 @@ use Rattle.p9_lang.specs.declared.tree.Kind.TheVariants as kind
 use Rattle.p9_lang.specs.Types.{TypeTree, Meant, Nothing, Outer, Static, Auto, EnumValue, TypeName}
 use Rattle.p9_lang.specs.Trees.{node, none, more}
 use Rattle.p9_lang.specs.Modules.{Label, Typed, TypedRow}
-use Rattle.p9_lang.specs.Typing.{is_declarator}
+use Rattle.p9_lang.specs.Parts.{is_declarator}
 use Rattle.p9_lang.specs.Symbols.{kind_of_node, name_label, initialiser}
 use Rattle.p9_cmean.specs.Automatics.{Declared}
 

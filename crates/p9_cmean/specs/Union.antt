@@ -1,5 +1,5 @@
 -- The union of modules: its static objects, one for all definitions that agree, and its functions.
-use Rattle.std.specs.Prelude.{ℕ, suc, ◌+◌, ◌*◌, Bool, true, false, not, ◌&&◌, ◌||◌, ◌==◌, if◌then◌else◌, List, [], ◌∷◌, ◌++◌, map, flat_map, sum, Option, Some, None, codes, decimal}
+use Rattle.std.specs.Prelude.{ℕ, suc, ◌+◌, ◌*◌, Bool, true, false, not, ◌&&◌, ◌||◌, ◌==◌, if◌then◌else◌, List, [], ◌∷◌, ◌++◌, map, flat_map, sum, Option, Some, None}
 use Rattle.std.specs.List.{list_any}
 use Rattle.p9_lang.specs.declared.tree.Kind.{Kind}
 use Rattle.p9_lang.specs.declared.tree.Kind.TheVariants as kind
@@ -184,8 +184,15 @@ object_number union owner name =
     first_some (number_from 0 (is_local_of owner name) union.objects) (number_from 0 (is_shared_of name) union.objects)
 
 -- a text or block static, by its number in the file
+abbrev pub has_number : ℕ → Option ℕ → Bool
+has_number number None = false
+has_number number (Some n) = n == number
+
+abbrev pub is_static_of : (owner number : ℕ) → Entry → Bool
+is_static_of owner number entry = (entry.owner == owner) && has_number number entry.symbol.static
+
 abbrev pub static_number : Union → (owner number : ℕ) → Option ℕ
-static_number union owner number = number_from 0 (is_local_of owner (codes "." ++ decimal number)) union.objects
+static_number union owner number = number_from 0 (is_static_of owner number) union.objects
 
 abbrev pub is_function : FunctionName → FunctionEntry → Bool
 is_function function entry = same_function function entry.function
