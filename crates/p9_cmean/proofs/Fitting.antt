@@ -111,17 +111,17 @@ lasts_system m Write call s = lasts_transfer m system.write (lasts_write m) call
 
 keeps_callee : (union : Union) (n : ℕ) (c : Callee) (call : Call) (s : State) → Keeps s (callee_body union n c call s)
 keeps_callee union n (System c) call s = keeps_system c call s
-keeps_callee union n (Defined entry) call s = keeps_body n (surroundings union entry) entry.definition call s
+keeps_callee union n (Defined entry) call s = keeps_body n (surroundings union entry.owner entry.tags) entry.definition call s
 keeps_callee union n NoCallee call s = goes_refl s
 
 callee_follows : (union : Union) (m n : ℕ) → m ≤ n → (c : Callee) (call : Call) (s : State) → Follows m (callee_body union m c call s) (callee_body union n c call s)
 callee_follows union m n le (System c) call s = follows_refl m (system.system_body c call s)
-callee_follows union m n le (Defined entry) call s = body_follows m n le (surroundings union entry) entry.definition call s
+callee_follows union m n le (Defined entry) call s = body_follows m n le (surroundings union entry.owner entry.tags) entry.definition call s
 callee_follows union m n le NoCallee call s = refl
 
 lasts_callee : (union : Union) (n : ℕ) (c : Callee) (call : Call) (s : State) → Lasts (suc n) (callee_body union n c call s)
 lasts_callee union n (System c) call s = lasts_system n c call s
-lasts_callee union n (Defined entry) call s = lasts_body n (surroundings union entry) entry.definition call s
+lasts_callee union n (Defined entry) call s = lasts_body n (surroundings union entry.owner entry.tags) entry.definition call s
 lasts_callee union n NoCallee call s = tt
 
 pub functions_fit : (union : Union) → Fit (functions_of union)

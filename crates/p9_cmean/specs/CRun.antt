@@ -52,14 +52,14 @@ abbrev pub start_of : Option ℕ → Option Pointer
 start_of None = None
 start_of (Some object) = Some (Into object 0)
 
-abbrev pub surroundings : Union → FunctionEntry → Surroundings
-surroundings union entry = record {
-  owner = entry.owner;
-  tags = entry.tags;
-  object = λ name. start_of (object_number union entry.owner name);
-  function = λ name. function_named union entry.owner name;
-  static = λ number. start_of (static_number union entry.owner number);
-  has_type = has_type_in union entry.tags;
+abbrev pub surroundings : Union → (owner : ℕ) → Tags → Surroundings
+surroundings union owner tags = record {
+  owner = owner;
+  tags = tags;
+  object = λ name. start_of (object_number union owner name);
+  function = λ name. function_named union owner name;
+  static = λ number. start_of (static_number union owner number);
+  has_type = has_type_in union tags;
   automatics = [];
   result = Void;
 }
@@ -67,7 +67,7 @@ surroundings union entry = record {
 -- A call names a function that is there, by `has_type`; only `main` is called without that.
 abbrev pub callee_body : Union → (turns : ℕ) → Callee → Call → State → Play Value
 callee_body union turns (System system) call s = system_body system call s
-callee_body union turns (Defined entry) call s = function_body turns (surroundings union entry) entry.definition call s
+callee_body union turns (Defined entry) call s = function_body turns (surroundings union entry.owner entry.tags) entry.definition call s
 callee_body union turns NoCallee call s = NoMeaning call.place s
 
 -- a system call needs its room and no more
