@@ -1,3 +1,5 @@
 pub mod Trees
 pub mod Operations
 pub mod Meaning
+pub mod Same
+pub mod Charges
