@@ -2,12 +2,17 @@
 //! weighs.
 #![tactic(auto)]
 
+mod forms;
 mod instructions;
 mod modules;
+mod regions;
 mod weights;
 
-pub use instructions::{
-    AFunction, Abs, Autos, Code, Depths, Op, Operand, Operands, Shape, TextDef,
+pub use forms::{
+    Calculation, Form, Location, OperandKind, PairTest, Product, SignTest, Special, Width, decoded,
+    form_of, operand_kind,
 };
-pub use modules::{AModule, Body, DataPiece, Pieces, Symbol, Symbols};
-pub use weights::{shape_of, weight};
+pub use instructions::{AFunction, Abs, Autos, Code, Depths, Op, Operand, Operands, TextDef};
+pub use modules::{AModule, Body, DataPiece, Def, Pieces, Symbol, Symbols};
+pub use regions::{Homes, Points, Region, Regions};
+pub use weights::{weight, words_of};

@@ -1,2 +1,6 @@
 pub mod Shifts
 pub mod CallLemmas
+pub mod CallLists
+pub mod Pieces
+pub mod Bringing
+pub mod Orders

@@ -3,6 +3,7 @@ use Rattle.std.specs.Fmt.{digits}
 use Rattle.std.proofs.Common.{refl}
 use Rattle.p9_lang.specs.RefusedFiles.{Refusals}
 use Rattle.p9_lang.specs.TypedFiles.{TypedFiles}
+use Rattle.p9_lang.specs.LayoutExamples.{Layouts, WordOperations, Agreements}
 
 pub refusals : Refusals
 refusals = record {
@@ -44,4 +45,45 @@ typed_files = record {
   null_moved_told = refl;
   long_text_told = refl;
   past_told = refl;
+}
+
+pub layouts : Layouts
+layouts = record {
+  char_int_short = refl;
+  inner = refl;
+  union = refl;
+  array = refl;
+  bodiless_has_none = refl;
+  function_has_none = refl;
+  own_member = refl;
+  promoted_member = refl;
+  two_at_a_level = refl;
+  not_through_names = refl;
+  no_body = refl;
+  substructure = refl;
+  no_substructure = refl;
+}
+
+pub word_operations : WordOperations
+word_operations = record {
+  least_by_minus_one = refl;
+  least_by_most = refl;
+  by_zero = refl;
+  truncates = refl;
+  remainder_has_the_sign = refl;
+  far_shift = refl;
+  keeps_the_sign = refl;
+  negative_is_less = refl;
+  most_is_not_less = refl;
+  sign_of_a_char = refl;
+  unsigned_char = refl;
+}
+
+pub agreements : Agreements
+agreements = record {
+  other_numbers = refl;
+  renamed_member = refl;
+  marked_and_bodiless = refl;
+  marked_and_complete = refl;
+  other_count = refl;
 }

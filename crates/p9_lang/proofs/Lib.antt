@@ -1,1 +1,4 @@
 pub mod Examples
+pub mod Layouts
+pub mod Settling
+pub mod Agreeing

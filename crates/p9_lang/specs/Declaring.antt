@@ -14,7 +14,7 @@ use Rattle.p9_lang.specs.Rules.{Rule, Malformed, Redeclared, BadConstant, Mispla
 use Rattle.p9_lang.specs.Expressions.{conversion_rules, assigned_rules, is_null, value_type}
 use Rattle.p9_lang.specs.Scopes.{Known, Declared, innermost, is_file_level, in_level, declare, open_level, next_node, with_meaning, with_type, complete_tag, around}
 use Rattle.p9_lang.specs.Declarators.{is_typedef, is_static, Step, LengthBy, ByNothing, ByCaller, closed, with_length, NameNode, name_of, own_list, adjusted, Declaring, naming_rules, object_rules, is_filled}
-use Rattle.p9_lang.specs.Parts.{Role, Part, Frame, Judged, Follows, follows, length_by, has_initialiser, last_object, object_type, object_role, name_in, member_names, members_in, next_value, Plain, ParameterOf, InBraces, Fills, Assigns, Value, Declarator, Object, Members, Enumerator, Braced, CaseLabel, DefaultLabel}
+use Rattle.p9_lang.specs.Parts.{Role, Part, Frame, Judged, Follows, follows, length_by, has_initialiser, last_object, object_type, object_role, name_in, object_names, members_in, next_value, Plain, ParameterOf, InBraces, Fills, Assigns, Value, Declarator, Object, Members, Enumerator, Braced, CaseLabel, DefaultLabel}
 use Rattle.p9_lang.specs.Entries.{entry_role, is_index_next}
 
 -- WHAT A PART MEANS TO A NODE
@@ -109,7 +109,7 @@ abbrev pub declare_member : Frame → List Part → List Step → Option NameNod
 declare_member f before steps None s = Err (at_node (last_node s) Malformed)
 declare_member f before steps (Some n) s =
     and_then
-    (named_with (last_node s) (member_rules s.tags (names_in_braces f.context.role ++ member_names before) n.name)
+    (named_with (last_node s) (member_rules s.tags (names_in_braces f.context.role ++ object_names before) n.name)
     (closed s.tags ByNothing f.base steps s.types))
     (λ made. Ok (Object made.0 steps (last_node s) Plain, record s { types = made.1 }))
 

@@ -92,10 +92,16 @@ abbrev pub member_found_rules : List ℕ → List Placed → List Rule
 member_found_rules x [] = NoMember x ∷ []
 member_found_rules x (m ∷ ms) = []
 
-abbrev pub structure_entry_rules : Tags → ℕ → EntryBy → List Rule
-structure_entry_rules tags i by.Nothing = []
-structure_entry_rules tags i by.Index = BadOperands ∷ []
-structure_entry_rules tags i (by.Member x) = member_found_rules x (direct_member tags i x)
+abbrev pub designator_rules : Tags → ℕ → EntryBy → List Rule
+designator_rules tags i by.Nothing = []
+designator_rules tags i by.Index = BadOperands ∷ []
+designator_rules tags i (by.Member x) = member_found_rules x (direct_member tags i x)
+
+-- of a union's entry behind its first nothing is asked
+abbrev pub structure_entry_rules : Tags → ℕ → (next : ℕ) → EntryBy → List Rule
+structure_entry_rules tags i zero entry_by = designator_rules tags i entry_by
+structure_entry_rules tags i (suc next) entry_by =
+    if is_union_tag (slice_get tags i) then [] else designator_rules tags i entry_by
 
 abbrev pub scalar_entry_rules : EntryBy → List Rule
 scalar_entry_rules by.Nothing = []
@@ -106,5 +112,5 @@ scalar_entry_rules (by.Member x) = BadOperands ∷ []
 abbrev pub entry_rules : Tags → Option TypeTree → (next : ℕ) → EntryBy → List Part → List Rule
 entry_rules tags None next entry_by parts = []
 entry_rules tags (Some (Array element n)) next entry_by parts = array_entry_rules tags element n next entry_by parts
-entry_rules tags (Some (Tagged i)) next entry_by parts = structure_entry_rules tags i entry_by
+entry_rules tags (Some (Tagged i)) next entry_by parts = structure_entry_rules tags i next entry_by
 entry_rules tags (Some type) next entry_by parts = scalar_entry_rules entry_by

@@ -368,10 +368,7 @@ abbrev pub all_writes : Tags → List InitEntry → Result (List Write) BrokenIt
 all_writes tags [] = Ok []
 all_writes tags (e ∷ es) = with_write (entry_write tags e) (all_writes tags es)
 
-abbrev pub writes_or_none : Result (List Write) BrokenItem → List Write
-writes_or_none (Ok ws) = ws
-writes_or_none (Err broken) = []
-
--- the first content of an object of this type; without an initialiser its bytes are 0
-abbrev pub first_writes : Tags → TypeTree → Typed → List Write
-first_writes tags type value = writes_or_none (all_writes tags (initialiser_entries tags type value))
+-- the first content of an object of this type, or the first item that breaks a rule; without an
+-- initialiser its bytes are 0
+abbrev pub first_writes : Tags → TypeTree → Typed → Result (List Write) BrokenItem
+first_writes tags type value = all_writes tags (initialiser_entries tags type value)

@@ -4,6 +4,8 @@ pub mod Types
 pub mod Layout
 pub mod Members
 pub mod Agreement
+pub mod TagRules
+pub mod Laws
 pub mod Conversions
 pub mod Rules
 pub mod Modules
@@ -22,3 +24,4 @@ pub mod Symbols
 pub mod ExampleTrees
 pub mod RefusedFiles
 pub mod TypedFiles
+pub mod LayoutExamples

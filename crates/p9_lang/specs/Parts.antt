@@ -140,11 +140,16 @@ abbrev pub name_in : Option NameNode → List ℕ
 name_in None = []
 name_in (Some n) = n.name
 
+-- the names of the members that stand in braces so far, and of those that one declaration has
 abbrev pub member_names : List Part → List (List ℕ)
 member_names [] = []
 member_names (Members members ∷ parts) = map (λ m. m.name) members ++ member_names parts
-member_names (Object type steps last role ∷ parts) = name_in (name_of steps) ∷ member_names parts
 member_names (other ∷ parts) = member_names parts
+
+abbrev pub object_names : List Part → List (List ℕ)
+object_names [] = []
+object_names (Object type steps last role ∷ parts) = name_in (name_of steps) ∷ object_names parts
+object_names (other ∷ parts) = object_names parts
 
 abbrev pub members_in : List Part → List MemberTree
 members_in [] = []

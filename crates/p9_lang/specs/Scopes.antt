@@ -218,10 +218,9 @@ tagged_as keyword name has_body s =
     keyword name has_body s
 
 -- the body of a structure is complete
-abbrev pub with_body : List MemberTree → Option TagTree → TagTree
-with_body members None = record { is_union = false; name = []; members = Some members; is_marked = false }
-with_body members (Some tag) = record tag { members = Some members }
-
 abbrev pub complete_tag : ℕ → List MemberTree → Known → Known
-complete_tag number members s =
-    record s { tags = slice_set s.tags number (with_body members (slice_get s.tags number)) }
+complete_tag number members s = by (slice_get s.tags number)
+  where
+    by : Option TagTree → Known
+    by None = s
+    by (Some tag) = record s { tags = slice_set s.tags number (record tag { members = Some members }) }

@@ -1,6 +1,6 @@
 -- The symbols of a module: the objects and functions of file scope, then the texts and the statics
 -- of blocks.
-use Rattle.std.specs.Prelude.{ℕ, Bool, true, false, not, ◌&&◌, ◌||◌, if◌then◌else◌, List, [], ◌∷◌, ◌++◌, filter, map, Option, Some, None, codes, decimal}
+use Rattle.std.specs.Prelude.{ℕ, Bool, true, false, not, ◌&&◌, ◌||◌, if◌then◌else◌, List, [], ◌∷◌, ◌++◌, filter, map, Option, Some, None, Result, Ok, Err, codes, decimal}
 use Rattle.p9_lang.specs.declared.tree.Kind.{Kind}
 use Rattle.p9_lang.specs.declared.tree.Kind.TheVariants as kind
 use Rattle.p9_lang.specs.Names.{same_name, is_among}
@@ -10,7 +10,7 @@ use Rattle.p9_lang.specs.Conversions.{is_function}
 use Rattle.p9_lang.specs.Declarators.{storage_of, is_extern}
 use Rattle.p9_lang.specs.Parts.{is_declarator}
 use Rattle.p9_lang.specs.Scopes.{system_names, system_type}
-use Rattle.p9_lang.specs.Initialisers.{Write, Bytes, text_bytes, first_writes}
+use Rattle.p9_lang.specs.Initialisers.{Write, Bytes, text_bytes, BrokenItem, first_writes}
 use Rattle.p9_lang.specs.Modules.{Label, Typed, TypedRow, Source}
 
 -- WHAT DECLARATORS DECLARE
@@ -112,7 +112,7 @@ abbrev mutual
 pub record LocalObject : Type 0 where
   pub number : ℕ
   pub type : TypeTree
-  pub first : Option (List Write)
+  pub first : Option (Result (List Write) BrokenItem)
 
 abbrev pub text_at : Kind → Label → List LocalObject
 text_at (kind.Text texts) label = by label.means
@@ -122,7 +122,7 @@ text_at (kind.Text texts) label = by label.means
         record {
           number = number;
           type = label.type;
-          first = Some (record { offset = 0; type = label.type; content = Bytes (text_bytes texts ++ 0 ∷ []) } ∷ []);
+          first = Some (Ok (record { offset = 0; type = label.type; content = Bytes (text_bytes texts ++ 0 ∷ []) } ∷ []));
         }
         ∷ []
     by Nothing = []
@@ -132,7 +132,7 @@ text_at (kind.Text texts) label = by label.means
     by (TypeName type) = []
 text_at k label = []
 
-abbrev pub writes_of : Tags → TypeTree → Option Typed → Option (List Write)
+abbrev pub writes_of : Tags → TypeTree → Option Typed → Option (Result (List Write) BrokenItem)
 writes_of tags type None = None
 writes_of tags type (Some value) = Some (first_writes tags type value)
 
@@ -164,12 +164,13 @@ abbrev mutual
 
 -- SYMBOLS
 
--- declared only, used, code, data with what is written first into it, or data that begins as zeros
+-- declared only, used, code, data with what is written first into it, or the first item of its
+-- initialiser that breaks a rule, or data that begins as zeros
 pub data SymbolKind : Type 0 where
   DeclaredOnly : SymbolKind
   Used : SymbolKind
   Code : (item : Typed) → SymbolKind
-  Data : (first : List Write) → SymbolKind
+  Data : (first : Result (List Write) BrokenItem) → SymbolKind
   Common : SymbolKind
 
 -- the number is that of a text or block static
@@ -237,7 +238,7 @@ has_no_body Common = false
 abbrev pub is_symbol : Symbol → Bool
 is_symbol symbol = not (symbol.is_local && has_no_body symbol.kind)
 
-abbrev pub local_kind : Option (List Write) → SymbolKind
+abbrev pub local_kind : Option (Result (List Write) BrokenItem) → SymbolKind
 local_kind None = Common
 local_kind (Some first) = Data first
 
@@ -255,3 +256,16 @@ abbrev pub symbols : Source → List Symbol
 symbols source =
     filter is_symbol (map (symbol_of source) (symbol_names source))
     ++ map local_symbol (local_objects_in source.tags false source.items)
+
+-- the first item of the initialisers that breaks a rule, in the order of the symbols
+abbrev pub item_broken : SymbolKind → Option BrokenItem → Option BrokenItem
+item_broken (Data (Err broken)) later = Some broken
+item_broken (Data (Ok writes)) later = later
+item_broken DeclaredOnly later = later
+item_broken Used later = later
+item_broken (Code item) later = later
+item_broken Common later = later
+
+abbrev pub first_broken_item : List Symbol → Option BrokenItem
+first_broken_item [] = None
+first_broken_item (symbol ∷ others) = item_broken symbol.kind (first_broken_item others)

@@ -2,7 +2,8 @@
 ghost use Rattle.std.specs.Prelude.{◌≡◌, IfOk, OnOk, List, ℕ, [], ◌∷◌, ◌++◌, codes};
 ghost use Rattle.p9_abs.specs.declared.modules.Body.TheVariants.{Text, Data};
 ghost use Rattle.p9_abs.specs.declared.modules.DataPiece.TheVariants.{Raw, Address};
-ghost use Rattle.p9_names.specs.BuiltIn.{builtin_module, builtin_symbols, inst, start_code, system_code, local_symbol, system_symbol, used_main, first_symbols, data_size, weight_with_start};
+ghost use Rattle.p9_abs.specs.BuiltIn.{builtin_module, builtin_symbols, inst, start_code, system_code, local_symbol, system_symbol, used_main, first_symbols, weight_with_start};
+ghost use Rattle.p9_abs.specs.Modules.{data_size};
 
 use p9_abs::{
     AModule, Abs, Body, Code, DataPiece, Op, Operand, Operands, Pieces, Symbol, Symbols, TextDef,

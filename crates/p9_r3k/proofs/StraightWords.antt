@@ -7,16 +7,16 @@ use Rattle.p9_r3k.specs.declared.lines.Line.{Line}
 use Rattle.p9_r3k.specs.declared.lines.Value.{Value}
 use Rattle.p9_r3k.specs.declared.lines.Part.{Part}
 use Rattle.p9_r3k.specs.declared.lines.Part.TheVariants.{High, Low, Jump}
-use Rattle.p9_r3k.specs.declared.halt.HaltCause.TheVariants.{Fetch}
-use Rattle.p9_r3k.specs.declared.halt.Ending.{Ending}
-use Rattle.p9_r3k.specs.declared.halt.Ending.TheVariants.{Running, Exited, Halted}
-use Rattle.p9_r3k.specs.declared.halt.Effect.{Effect}
-use Rattle.p9_r3k.specs.declared.halt.Effect.TheVariants as effects
+use Rattle.p9_base.specs.declared.halt.HaltCause.TheVariants.{Fetch}
+use Rattle.p9_base.specs.declared.halt.Ending.{Ending}
+use Rattle.p9_base.specs.declared.halt.Ending.TheVariants.{Running, Exited, Halted}
+use Rattle.p9_base.specs.declared.halt.Effect.{Effect}
+use Rattle.p9_base.specs.declared.halt.Effect.TheVariants as effects
 use Rattle.p9_r3k.specs.Table.{Fits}
 use Rattle.p9_r3k.specs.Memory.{text_start, stack_start, with_half_in, with_word_in}
 use Rattle.p9_r3k.specs.Effects.{effect_of}
 use Rattle.p9_r3k.specs.Machine.{State, asked}
-use Rattle.p9_r3k.specs.Straight.{Addresses, Straight, with_imm, with_index, with_piece, with_value, filled, line_at, standing, linked_line, on_to, at_once, straight_line, straight_going, straight_step, straight_run}
+use Rattle.p9_r3k.specs.Straight.{Addresses, Straight, with_imm, with_index, with_piece, with_value, filled, line_at, aim, standing, linked_line, on_to, at_once, straight_line, straight_going, straight_step, straight_run}
 use Rattle.p9_r3k.proofs.Words.{HoldsAll, ValuesFit, with_register-words, memory-words-by, set-bytes, half-bytes, word-bytes, halted-words, called-words, asked-count, effect_of-values}
 
 -- What is filled in fits
@@ -203,14 +203,14 @@ at_once-holds a n target (effects.StoreByte p v) i s small f h = record {
 }
 at_once-holds a n target (effects.StoreHalf p v) i s small f h = record {
   words =
-      memory-words-by (nat_lt p stack_start) s.core (with_half_in s.core.low (p - text_start) v) (with_half_in s.core.stack (p - stack_start) v)
-      h.words (half-bytes s.core.low (p - text_start) v h.words.low_bytes) (half-bytes s.core.stack (p - stack_start) v h.words.stack_bytes);
+      memory-words-by (nat_lt p stack_start) s.core (with_half_in s.core.order s.core.low (p - text_start) v) (with_half_in s.core.order s.core.stack (p - stack_start) v)
+      h.words (half-bytes s.core.order s.core.low (p - text_start) v h.words.low_bytes) (half-bytes s.core.order s.core.stack (p - stack_start) v h.words.stack_bytes);
   left = h.left;
 }
 at_once-holds a n target (effects.StoreWord p v) i s small f h = record {
   words =
-      memory-words-by (nat_lt p stack_start) s.core (with_word_in s.core.low (p - text_start) v) (with_word_in s.core.stack (p - stack_start) v)
-      h.words (word-bytes s.core.low (p - text_start) v h.words.low_bytes) (word-bytes s.core.stack (p - stack_start) v h.words.stack_bytes);
+      memory-words-by (nat_lt p stack_start) s.core (with_word_in s.core.order s.core.low (p - text_start) v) (with_word_in s.core.order s.core.stack (p - stack_start) v)
+      h.words (word-bytes s.core.order s.core.low (p - text_start) v h.words.low_bytes) (word-bytes s.core.order s.core.stack (p - stack_start) v h.words.stack_bytes);
   left = h.left;
 }
 at_once-holds a n target (effects.Branch r taken to) i s small f h =
@@ -225,7 +225,7 @@ pub straight_line-holds :
     WordAddresses a → ((l : Line) → line ≡ Some l → Fits l.inst) → HoldsAll s → HoldsAll (straight_line a n line i s).state
 straight_line-holds a n None i s small fits h = record { words = halted-words s.core Fetch h.words; left = h.left }
 straight_line-holds a n (Some line) i s small fits h =
-    at_once-holds a n line.target (effect_of (filled a line) s.core) i s small
+    at_once-holds a n (aim a n line s.core) (effect_of (filled a line) s.core) i s small
     (effect_of-values (filled a line) s.core (filled-fits a line (fits line refl)) h.words) h
 
 pub straight_going-holds :

@@ -8,7 +8,8 @@ use Rattle.p9_base.specs.Calls.{StreamCall, Call, OnStream, OnFiles, Objects, Do
 use Rattle.p9_base.proofs.CallLemmas.{take_counts, put_counts, file_counts, counts_say}
 use Rattle.p9_base.specs.declared.outside.Got.{Got}
 use Rattle.p9_base.specs.declared.outside.Got.TheVariants as got
-use Rattle.p9_names.specs.Answers.{linked, Joins}
+use Rattle.p9_abs.specs.BuiltIn.{linked}
+use Rattle.p9_names.specs.Answers.{Joins}
 use Rattle.p9_share.specs.Symbols.{module_of}
 use Rattle.p9_suite.specs.declared.answer.Answer.{Answer}
 use Rattle.p9_suite.specs.declared.answer.Answer.TheVariants.{Ended, Usage, Twice, NoMain, MainType, Unresolved, Disagree, Absent, ReadFault, WriteFault, StoreFault, Memory, Halted, Spent, BadMagic, ShortFile, BadSegment, NotBuilt}

@@ -10,7 +10,8 @@ use Rattle.p9_form.specs.Items.{items_of, source_of}
 use Rattle.p9_form.specs.Spelling.{HasForm, HasNoForm}
 use Rattle.p9_names.specs.declared.table.LinkFault.{LinkFault}
 use Rattle.p9_names.specs.declared.table.LinkFault.TheVariants as links
-use Rattle.p9_names.specs.Answers.{linked, Joins, IsRefusal}
+use Rattle.p9_abs.specs.BuiltIn.{linked}
+use Rattle.p9_names.specs.Answers.{Joins, IsRefusal}
 use Rattle.p9_share.specs.Symbols.{module_of}
 use Rattle.p9_straight.specs.Headline.{KeepsMeaning, EndsInTime}
 use Rattle.p9_suite.specs.declared.answer.Answer.{Answer}

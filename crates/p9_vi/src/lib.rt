@@ -1,12 +1,10 @@
 //! The simulator of the big-endian R3000.
 #![tactic(auto)]
 
-mod hazards;
 mod machine;
 mod operations;
 mod simulation;
 mod stop;
-mod streams;
 
 pub use machine::Machine;
 pub use simulation::simulate;
