@@ -1,9 +1,9 @@
 -- What the objects of a program hold when it starts: the static objects of its modules, and behind
 -- them the three of the built-in module.
-use Rattle.std.specs.Prelude.{ℕ, suc, ◌+◌, ◌&&◌, nat_lt, if◌then◌else◌, Bool, List, [], ◌∷◌, ◌++◌, map, length, take, drop, replicate, Option, Some, None, codes}
+use Rattle.std.specs.Prelude.{ℕ, suc, ◌+◌, ◌&&◌, nat_lt, if◌then◌else◌, Bool, List, [], ◌∷◌, ◌++◌, map, length, take, drop, replicate, Option, Some, None, Result, Ok, Err, codes}
 use Rattle.p9_lang.specs.Types.{TypeTree, Tags}
 use Rattle.p9_lang.specs.Layout.{size_of}
-use Rattle.p9_lang.specs.Initialisers.{Base, OuterBase, StaticBase, Content, Word, AddressOf, Bytes, Write}
+use Rattle.p9_lang.specs.Initialisers.{Base, OuterBase, StaticBase, Content, Word, AddressOf, Bytes, Write, BrokenItem}
 use Rattle.p9_lang.specs.Symbols.{Symbol, SymbolKind, DeclaredOnly, Used, Code, Data, Common}
 use Rattle.p9_cmean.specs.Cells.{FunctionName, Global, Local, Pointer, Into, ToFunction, Cell, Unset, Byte, Part, Object}
 use Rattle.p9_cmean.specs.Access.{number_cells, pointer_cells}
@@ -67,6 +67,11 @@ with_writes union owner tags [] cells = cells
 with_writes union owner tags (w ∷ ws) cells =
     with_writes union owner tags ws (with_entry w.offset (content_cells union owner (size_of tags w.type) w.content) cells)
 
+-- an initialiser that breaks a rule is refused before the program runs
+abbrev pub with_first : Union → (owner : ℕ) → Tags → Result (List Write) BrokenItem → List Cell → List Cell
+with_first union owner tags (Ok writes) cells = with_writes union owner tags writes cells
+with_first union owner tags (Err broken) cells = cells
+
 -- what no entry writes is 0
 abbrev pub zeros : Entry → List Cell
 zeros entry = replicate (size_of entry.tags entry.symbol.type) (Byte 0)
@@ -78,7 +83,7 @@ first_cells union entry = by entry.symbol.kind
     by DeclaredOnly = zeros entry
     by Used = zeros entry
     by (Code item) = zeros entry
-    by (Data writes) = with_writes union entry.owner entry.tags writes (zeros entry)
+    by (Data first) = with_first union entry.owner entry.tags first (zeros entry)
     by Common = zeros entry
 
 -- THE BUILT-IN MODULE'S: the list of the program's arguments, which is its name `v.out` and null; the
