@@ -21,7 +21,7 @@ use Rattle.p9_abs.specs.Modules.{named_by_operand}
 use Rattle.p9_abs.specs.Validity.{IsRegister, IsInRange, IsWithin, IsInstruction, IsWritable, writes_last}
 use Rattle.p9_object.specs.Fields.{Field, Byte, Half, Word, Chars, operand_fields, instruction_fields}
 use Rattle.p9_object.specs.Laws.{OperandFits}
-use Rattle.p9_object.specs.Machine.{Turn, Bad, Stay, Whole, Sort, sort_of, sorts, may_follow, shifts, is_constant_of, OperandPlace, AtTag, operand_step, read_operand, Around, is_lasting_register, InstructionPlace, AtOperation, InOperand, read_instruction, all_operations, op_among, may_end, with_operands, around, behind_operand, operation_step, instruction_step}
+use Rattle.p9_object.specs.Machine.{Turn, Bad, Stay, Whole, Sort, sort_of, sorts, may_follow, shifts, is_constant_of, OperandPlace, AtTag, AtRegister, AtConstant, AtAddressSymbol, AtAddressOffset, AtArgumentAddress, AtFrameAddress, AtSymbol, AtOffset, AtArgument, AtFrameOffset, AtBase, AtBaseOffset, AtLabel, AtFunction, operand_step, read_operand, Around, is_lasting_register, InstructionPlace, AtOperation, InOperand, read_instruction, all_operations, op_among, may_end, with_operands, around, behind_operand, operation_step, instruction_step}
 use Rattle.p9_object.proofs.Rows.{Follow, follows, is_last, Sample, ARegister, ATarget, sample_kind, sample_kinds, HeadCounts, Ends, goes}
 use Rattle.p9_object.proofs.Operands.{nothing, runs, runs_none, runs_append, FieldFits, CountGood, WriteGood, IsPlaced, IsGood, OperandWell, OperandOk, operand_sound, operand_read, Leads, operand_leads, IsInside}
 
@@ -304,3 +304,262 @@ run_rest symbols frame total more op before (o ∷ os) h r w =
     tail : (os : List Operand) → (writes_last op ≡ true → IsWritable (o ∷ os)) → writes_last op ≡ true → IsWritable os
     tail [] w e = tt
     tail (p ∷ ps) w e = writable_tail o p ps (w e)
+
+all_counts : (op : Op) (os : List Operand) → All (KindCounts (is_constant_of op)) (kinds os) → All (λ o. CountGood (is_constant_of op) o) os
+all_counts op [] h = All-nil (λ o. CountGood (is_constant_of op) o)
+all_counts op (o ∷ os) h =
+    let K : OperandKind → Type 0 = KindCounts (is_constant_of op) in
+    All-cons (λ o. CountGood (is_constant_of op) o) o os (of_kind (is_constant_of op) o (All-head K (operand_kind o) (kinds os) h)) (all_counts op os (All-tail K (operand_kind o) (kinds os) h))
+
+all_read : (op : Op) (symbols frame total : ℕ) (os : List Operand) → All (IsInRange frame total) os → All (λ o. IsWithin symbols (named_by_operand o)) os → All (λ o. CountGood (is_constant_of op) o) os → All (Read op symbols frame total) os
+all_read op symbols frame total [] r w c = All-nil (Read op symbols frame total)
+all_read op symbols frame total (o ∷ os) r w c =
+    All-cons (Read op symbols frame total) o os
+      (record { range = All-head (IsInRange frame total) o os r; symbol = All-head (λ o. IsWithin symbols (named_by_operand o)) o os w; counts = All-head (λ o. CountGood (is_constant_of op) o) o os c })
+      (all_read op symbols frame total os (All-tail (IsInRange frame total) o os r) (All-tail (λ o. IsWithin symbols (named_by_operand o)) o os w) (All-tail (λ o. CountGood (is_constant_of op) o) o os c))
+
+operation_opens : (more : Bool) (op : Op) → (more ≡ false → EndsFunction op) → operation_step more (Some op) ≡ with_operands op []
+operation_opens true op h = refl
+operation_opens false op h = ap (λ (b : Bool). if b then with_operands op [] else Bad) (end_may op (h refl))
+
+-- An instruction in range is read.
+pub instruction_read :
+  (symbols frame total : ℕ) (more : Bool) (a : Abs) → IsInstruction frame total a → All (λ o. IsWithin symbols (named_by_operand o)) a.operands
+  → (more ≡ false → EndsFunction a.op) → runs (instruction symbols frame total more) (Stay AtOperation) (instruction_fields a) ≡ Whole a
+instruction_read symbols frame total more a g w e =
+    let i : InstructionPlace → Field → Turn InstructionPlace Abs = instruction symbols frame total more in
+    let fs : List Field = flat_map operand_fields a.operands in
+    let counts = all_counts a.op a.operands (form_counts a.op (kinds a.operands) g.form) in
+    ap (λ (x : Option Op). runs i (operation_step more x) fs) (op_read a.op)
+      ∙ ap (λ (t : Turn InstructionPlace Abs). runs i t fs) (operation_opens more a.op e)
+      ∙ run_rest symbols frame total more a.op [] a.operands (follows a.op (kinds a.operands) g.form) (all_read a.op symbols frame total a.operands g.operands w counts) g.destination
+
+-- What is read
+
+pub record OpenWell (symbols frame total : ℕ) (more : Bool) (op : Op) (before : List Operand) : Type 0 where
+  pub ends : more ≡ false → EndsFunction op
+  pub each : All (Read op symbols frame total) before
+  pub fits : All OperandFits before
+  pub leads : Ends (kinds_form op) (may_follow op) (kinds before)
+
+abbrev pub InstructionWell : (symbols frame total : ℕ) → Bool → InstructionPlace → Type 0
+InstructionWell symbols frame total more AtOperation = Unit {0}
+InstructionWell symbols frame total more (InOperand op before p) =
+    OpenWell symbols frame total more op before × (is_some (form_of op before) ≡ false) × OperandWell (around symbols frame total op before) p
+
+pub record IsWhole (symbols frame total : ℕ) (more : Bool) (a : Abs) : Type 0 where
+  pub instruction : IsInstruction frame total a
+  pub symbols_named : All (λ o. IsWithin symbols (named_by_operand o)) a.operands
+  pub fits : All OperandFits a.operands
+  pub ends : more ≡ false → EndsFunction a.op
+
+abbrev pub InstructionOk : (symbols frame total : ℕ) → Bool → InstructionPlace → Field → Turn InstructionPlace Abs → Type 0
+InstructionOk symbols frame total more p f Bad = Unit {0}
+InstructionOk symbols frame total more p f (Stay q) = (read_instruction q ≡ read_instruction p ++ f ∷ []) × InstructionWell symbols frame total more q
+InstructionOk symbols frame total more p f (Whole a) = (instruction_fields a ≡ read_instruction p ++ f ∷ []) × IsWhole symbols frame total more a
+
+ranges : (op : Op) (symbols frame total : ℕ) (os : List Operand) → All (Read op symbols frame total) os → All (IsInRange frame total) os
+ranges op symbols frame total [] h = All-nil (IsInRange frame total)
+ranges op symbols frame total (o ∷ os) h =
+    let P : Operand → Type 0 = Read op symbols frame total in
+    All-cons (IsInRange frame total) o os (All-head P o os h).range (ranges op symbols frame total os (All-tail P o os h))
+
+names : (op : Op) (symbols frame total : ℕ) (os : List Operand) → All (Read op symbols frame total) os → All (λ o. IsWithin symbols (named_by_operand o)) os
+names op symbols frame total [] h = All-nil (λ o. IsWithin symbols (named_by_operand o))
+names op symbols frame total (o ∷ os) h =
+    let P : Operand → Type 0 = Read op symbols frame total in
+    All-cons (λ o. IsWithin symbols (named_by_operand o)) o os (All-head P o os h).symbol (names op symbols frame total os (All-tail P o os h))
+
+-- with these operands the instruction is whole, or it waits for another
+with_ok :
+  (symbols frame total : ℕ) (more : Bool) (p : InstructionPlace) (f : Field) (op : Op) (os : List Operand)
+  → Byte (op_number op) ∷ flat_map operand_fields os ≡ read_instruction p ++ f ∷ [] → OpenWell symbols frame total more op os
+  → (is_some (form_of op os) ≡ true → writes_last op ≡ true → IsWritable os) → InstructionOk symbols frame total more p f (with_operands op os)
+with_ok symbols frame total more p f op os text w d =
+    cond_both (is_some (form_of op os)) _ _ (InstructionOk symbols frame total more p f)
+      (λ e. (text, record {
+        instruction = record { form = e; operands = ranges op symbols frame total os w.each; destination = d e };
+        symbols_named = names op symbols frame total os w.each;
+        fits = w.fits;
+        ends = w.ends;
+      }))
+      (λ e. (ap (λ (t : List Field). Byte (op_number op) ∷ t) (append-nil (flat_map operand_fields os)) ∙ text, (w, e, tt)))
+
+-- some operands begin a form of each operation
+begins : (op : Op) → Ends (kinds_form op) (may_follow op) []
+begins MovW = (ARegister ∷ ARegister ∷ [], (refl, refl, refl, (refl, refl, refl, refl)))
+begins MovH = (ARegister ∷ ARegister ∷ [], (refl, refl, refl, (refl, refl, refl, refl)))
+begins MovHU = (ARegister ∷ ARegister ∷ [], (refl, refl, refl, (refl, refl, refl, refl)))
+begins MovB = (ARegister ∷ ARegister ∷ [], (refl, refl, refl, (refl, refl, refl, refl)))
+begins MovBU = (ARegister ∷ ARegister ∷ [], (refl, refl, refl, (refl, refl, refl, refl)))
+begins Add = (ARegister ∷ ARegister ∷ ARegister ∷ [], (refl, refl, refl, (refl, refl, refl, (refl, refl, refl, refl))))
+begins AddU = (ARegister ∷ ARegister ∷ ARegister ∷ [], (refl, refl, refl, (refl, refl, refl, (refl, refl, refl, refl))))
+begins Sub = (ARegister ∷ ARegister ∷ ARegister ∷ [], (refl, refl, refl, (refl, refl, refl, (refl, refl, refl, refl))))
+begins SubU = (ARegister ∷ ARegister ∷ ARegister ∷ [], (refl, refl, refl, (refl, refl, refl, (refl, refl, refl, refl))))
+begins And = (ARegister ∷ ARegister ∷ ARegister ∷ [], (refl, refl, refl, (refl, refl, refl, (refl, refl, refl, refl))))
+begins Or = (ARegister ∷ ARegister ∷ ARegister ∷ [], (refl, refl, refl, (refl, refl, refl, (refl, refl, refl, refl))))
+begins Xor = (ARegister ∷ ARegister ∷ ARegister ∷ [], (refl, refl, refl, (refl, refl, refl, (refl, refl, refl, refl))))
+begins Nor = (ARegister ∷ ARegister ∷ ARegister ∷ [], (refl, refl, refl, (refl, refl, refl, (refl, refl, refl, refl))))
+begins Sgt = (ARegister ∷ ARegister ∷ ARegister ∷ [], (refl, refl, refl, (refl, refl, refl, (refl, refl, refl, refl))))
+begins SgtU = (ARegister ∷ ARegister ∷ ARegister ∷ [], (refl, refl, refl, (refl, refl, refl, (refl, refl, refl, refl))))
+begins Sll = (ARegister ∷ ARegister ∷ ARegister ∷ [], (refl, refl, refl, (refl, refl, refl, (refl, refl, refl, refl))))
+begins Srl = (ARegister ∷ ARegister ∷ ARegister ∷ [], (refl, refl, refl, (refl, refl, refl, (refl, refl, refl, refl))))
+begins Sra = (ARegister ∷ ARegister ∷ ARegister ∷ [], (refl, refl, refl, (refl, refl, refl, (refl, refl, refl, refl))))
+begins Mul = (ARegister ∷ ARegister ∷ [], (refl, refl, refl, (refl, refl, refl, refl)))
+begins MulU = (ARegister ∷ ARegister ∷ [], (refl, refl, refl, (refl, refl, refl, refl)))
+begins Div = (ARegister ∷ ARegister ∷ [], (refl, refl, refl, (refl, refl, refl, refl)))
+begins DivU = (ARegister ∷ ARegister ∷ [], (refl, refl, refl, (refl, refl, refl, refl)))
+begins Beq = (ARegister ∷ ARegister ∷ ATarget ∷ [], (refl, refl, refl, (refl, refl, refl, (refl, refl, refl, refl))))
+begins Bne = (ARegister ∷ ARegister ∷ ATarget ∷ [], (refl, refl, refl, (refl, refl, refl, (refl, refl, refl, refl))))
+begins Bgez = (ARegister ∷ ATarget ∷ [], (refl, refl, refl, (refl, refl, refl, refl)))
+begins Bgtz = (ARegister ∷ ATarget ∷ [], (refl, refl, refl, (refl, refl, refl, refl)))
+begins Blez = (ARegister ∷ ATarget ∷ [], (refl, refl, refl, (refl, refl, refl, refl)))
+begins Bltz = (ARegister ∷ ATarget ∷ [], (refl, refl, refl, (refl, refl, refl, refl)))
+begins Jmp = (ATarget ∷ [], (refl, refl, refl, refl))
+begins Jal = (ARegister ∷ [], (refl, refl, refl, refl))
+begins Ret = ([], refl)
+begins Syscall = ([], refl)
+
+writable_none : (op : Op) → is_some (form_of op []) ≡ true → writes_last op ≡ true → IsWritable []
+writable_none op h w = tt
+
+ends_if : (more : Bool) (op : Op) → (more || may_end op) ≡ true → more ≡ false → EndsFunction op
+ends_if true op h e = absurd (true≢false e)
+ends_if false op h e = may_end_true op h
+
+operation_ok : (symbols frame total : ℕ) (more : Bool) (n : ℕ) (x : Option Op) → op_among all_operations n ≡ x → InstructionOk symbols frame total more AtOperation (Byte n) (operation_step more x)
+operation_ok symbols frame total more n None h = tt
+operation_ok symbols frame total more n (Some op) h =
+    cond_both (more || may_end op) _ _ (InstructionOk symbols frame total more AtOperation (Byte n))
+      (λ e.
+        let w : OpenWell symbols frame total more op [] = record { ends = ends_if more op e; each = All-nil (Read op symbols frame total); fits = All-nil OperandFits; leads = begins op } in
+        with_ok symbols frame total more AtOperation (Byte n) op [] (ap (λ (k : ℕ). Byte k ∷ []) (number_among all_operations n op h)) w (writable_none op))
+      (λ e. tt)
+
+-- the last operand of a whole form isn't a register that lasts, where it is written
+last_good : (op : Op) (before : List Operand) (o : Operand) → is_some (form_of op (before ++ o ∷ [])) ≡ true → writes_last op ≡ true → WriteGood (λ r. writes_last op && is_some (form_of op (before ++ Reg r ∷ []))) o → LastGood o
+last_good op before (Reg r) e w g = (lasting_apart r 29 refl f, lasting_apart r 30 refl f, lasting_apart r 31 refl f)
+  where
+    f : is_lasting_register r ≡ false
+    f = sym (ap (λ (b : Bool). (b && is_some (form_of op (before ++ Reg r ∷ []))) && is_lasting_register r) w ∙ ap (λ (b : Bool). b && is_lasting_register r) e) ∙ g
+last_good op before _ e w g = tt
+
+head_counts : (op : Op) (symbols frame total : ℕ) (os : List Operand) (o : Operand) → All (Read op symbols frame total) os → CountGood (is_constant_of op) o → HeadCounts (is_constant_of op) (kinds os ++ operand_kind o ∷ [])
+head_counts op symbols frame total [] o h c = head_of (is_constant_of op) o [] c
+head_counts op symbols frame total (x ∷ os) o h c = head_of (is_constant_of op) x (kinds os ++ operand_kind o ∷ []) (All-head (Read op symbols frame total) x os h).counts
+
+goes_on : (op : Op) (symbols frame total : ℕ) (before : List Operand) (o : Operand) → All (Read op symbols frame total) before → CountGood (is_constant_of op) o → may_follow op (sorts (kinds before)) (sort_of (operand_kind o)) ≡ true → Ends (kinds_form op) (may_follow op) (kinds (before ++ o ∷ []))
+goes_on op symbols frame total before o h c m =
+    subst (λ (ks : List OperandKind). Ends (kinds_form op) (may_follow op) ks) (sym (kinds_push before o)) (goes op (kinds before) (operand_kind o) (head_counts op symbols frame total before o h c) m)
+
+behind_ok :
+  (symbols frame total : ℕ) (more : Bool) (op : Op) (before : List Operand) (p : OperandPlace) (f : Field) (t : Turn OperandPlace Operand)
+  → OpenWell symbols frame total more op before → is_some (form_of op before) ≡ false → OperandOk (around symbols frame total op before) p f t
+  → InstructionOk symbols frame total more (InOperand op before p) f (behind_operand op before t)
+behind_ok symbols frame total more op before p f Bad w n k = tt
+behind_ok symbols frame total more op before p f (Stay q) w n k =
+    (ap (λ (t : List Field). Byte (op_number op) ∷ flat_map operand_fields before ++ t) k.0 ∙ ap (λ (t : List Field). Byte (op_number op) ∷ t) (sym (append_assoc (flat_map operand_fields before) (read_operand p) (f ∷ []))), (w, n, k.1))
+behind_ok symbols frame total more op before p f (Whole o) w n k =
+    let P : Operand → Type 0 = Read op symbols frame total in
+    let g = k.1 in
+    let text : Byte (op_number op) ∷ flat_map operand_fields (before ++ o ∷ []) ≡ read_instruction (InOperand op before p) ++ f ∷ [] =
+        ap (λ (t : List Field). Byte (op_number op) ∷ t) (flat_push operand_fields before o ∙ ap (λ (t : List Field). flat_map operand_fields before ++ t) k.0 ∙ sym (append_assoc (flat_map operand_fields before) (read_operand p) (f ∷ []))) in
+    let well : OpenWell symbols frame total more op (before ++ o ∷ []) = record {
+      ends = w.ends;
+      each = all_push P before o w.each (record { range = g.range; symbol = g.symbol; counts = g.counts });
+      fits = all_push OperandFits before o w.fits k.2;
+      leads = goes_on op symbols frame total before o w.each g.counts g.may;
+    } in
+    with_ok symbols frame total more (InOperand op before p) f op (before ++ o ∷ []) text well (λ e d. writable_push before o (last_good op before o e d g.write))
+
+pub instruction_sound : (symbols frame total : ℕ) (more : Bool) (p : InstructionPlace) (f : Field) → FieldFits f → InstructionWell symbols frame total more p → InstructionOk symbols frame total more p f (instruction_step symbols frame total more p f)
+instruction_sound symbols frame total more AtOperation (Byte n) k w = operation_ok symbols frame total more n (op_among all_operations n) refl
+instruction_sound symbols frame total more AtOperation (Half n) k w = tt
+instruction_sound symbols frame total more AtOperation (Word n) k w = tt
+instruction_sound symbols frame total more AtOperation (Chars bytes) k w = tt
+instruction_sound symbols frame total more (InOperand op before p) f k w =
+    behind_ok symbols frame total more op before p f (operand_step (around symbols frame total op before) p f) w.0 w.1 (operand_sound (around symbols frame total op before) p f k w.2)
+
+-- From inside an instruction some fields lead to its end.
+
+abbrev sample_operand : Sample → Operand
+sample_operand ARegister = Reg 0
+sample_operand ATarget = Label 0
+
+abbrev sample_operands : List Sample → List Operand
+sample_operands [] = []
+sample_operands (x ∷ xs) = sample_operand x ∷ sample_operands xs
+
+one_kind : (x : Sample) → operand_kind (sample_operand x) ≡ sample_kind x
+one_kind ARegister = refl
+one_kind ATarget = refl
+
+same_kinds : (xs : List Sample) → kinds (sample_operands xs) ≡ sample_kinds xs
+same_kinds [] = refl
+same_kinds (x ∷ xs) = ap (λ (k : OperandKind). k ∷ kinds (sample_operands xs)) (one_kind x) ∙ ap (λ (ks : List OperandKind). sample_kind x ∷ ks) (same_kinds xs)
+
+sample_read : (op : Op) (symbols frame total : ℕ) → 0 < total → (x : Sample) → Read op symbols frame total (sample_operand x)
+sample_read op symbols frame total t ARegister = record { range = (omega arith, λ e. omega (arith, e), λ e. omega (arith, e), λ e. omega (arith, e)); symbol = tt; counts = tt }
+sample_read op symbols frame total t ATarget = record { range = t; symbol = tt; counts = tt }
+
+samples_read : (op : Op) (symbols frame total : ℕ) → 0 < total → (xs : List Sample) → All (Read op symbols frame total) (sample_operands xs)
+samples_read op symbols frame total t [] = All-nil (Read op symbols frame total)
+samples_read op symbols frame total t (x ∷ xs) = All-cons (Read op symbols frame total) (sample_operand x) (sample_operands xs) (sample_read op symbols frame total t x) (samples_read op symbols frame total t xs)
+
+samples_writable : (xs : List Sample) → IsWritable (sample_operands xs)
+samples_writable [] = tt
+samples_writable (ARegister ∷ []) = (λ e. omega (arith, e), λ e. omega (arith, e), λ e. omega (arith, e))
+samples_writable (ATarget ∷ []) = tt
+samples_writable (x ∷ y ∷ xs) = writable_cons (sample_operand x) (sample_operand y) (sample_operands xs) (samples_writable (y ∷ xs))
+
+pub record InstructionLeads (symbols frame total : ℕ) (more : Bool) (p : InstructionPlace) : Type 0 where
+  pub fields : List Field
+  pub instruction : Abs
+  pub reads : runs (instruction_step symbols frame total more) (Stay p) fields ≡ Whole instruction
+
+or_true : (b : Bool) → (b || true) ≡ true
+or_true true = refl
+or_true false = refl
+
+-- operands that the form still wants
+from_open : (symbols frame total : ℕ) (more : Bool) (op : Op) (before : List Operand) → 0 < total → Ends (kinds_form op) (may_follow op) (kinds before) → (fs : List Field) × (a : Abs) × (runs (instruction symbols frame total more) (with_operands op before) fs ≡ Whole a)
+from_open symbols frame total more op before t e =
+    let os : List Operand = sample_operands e.0 in
+    let follow : Follow (kinds_form op) (may_follow op) (kinds before) (kinds os) = subst (λ (ks : List OperandKind). Follow (kinds_form op) (may_follow op) (kinds before) ks) (sym (same_kinds e.0)) e.1 in
+    (flat_map operand_fields os, made op (before ++ os), run_rest symbols frame total more op before os follow (samples_read op symbols frame total t e.0) (λ w. samples_writable e.0))
+
+at_tag : (symbols frame total : ℕ) (more : Bool) (op : Op) (before : List Operand) → 0 < total → is_some (form_of op before) ≡ false → Ends (kinds_form op) (may_follow op) (kinds before) → InstructionLeads symbols frame total more (InOperand op before AtTag)
+at_tag symbols frame total more op before t n e =
+    let r = from_open symbols frame total more op before t e in
+    let opened : with_operands op before ≡ Stay (InOperand op before AtTag) = ap (λ (b : Bool). if b then Whole (made op before) else Stay (InOperand op before AtTag)) n in
+    record { fields = r.0; instruction = r.1; reads = ap (λ (x : Turn InstructionPlace Abs). runs (instruction symbols frame total more) x r.0) (sym opened) ∙ r.2 }
+
+inside : (symbols frame total : ℕ) (more : Bool) (op : Op) (before : List Operand) (p : OperandPlace) → 0 < symbols → 0 < total → OpenWell symbols frame total more op before → OperandWell (around symbols frame total op before) p → IsInside p → InstructionLeads symbols frame total more (InOperand op before p)
+inside symbols frame total more op before p s t w k i =
+    let l = operand_leads (around symbols frame total op before) p s t (or_true (not (shifts op))) k i in
+    let r = from_open symbols frame total more op (before ++ l.operand ∷ []) t (goes_on op symbols frame total before l.operand w.each l.counts l.may) in
+    let here = lift symbols frame total more op before (Stay p) l.fields l.operand l.reads in
+    record {
+      fields = l.fields ++ r.0;
+      instruction = r.1;
+      reads = runs_append (instruction symbols frame total more) (Stay (InOperand op before p)) l.fields r.0 ∙ ap (λ (x : Turn InstructionPlace Abs). runs (instruction symbols frame total more) x r.0) here ∙ r.2;
+    }
+
+pub instruction_leads : (symbols frame total : ℕ) (more : Bool) (p : InstructionPlace) → 0 < symbols → 0 < total → InstructionWell symbols frame total more p → InstructionLeads symbols frame total more p
+instruction_leads symbols frame total more AtOperation s t w =
+    record { fields = Byte 31 ∷ []; instruction = made Ret []; reads = ap (λ (b : Bool). runs (instruction symbols frame total more) (if b then Whole (made Ret []) else Bad) []) (or_true more) }
+instruction_leads symbols frame total more (InOperand op before AtTag) s t w = at_tag symbols frame total more op before t w.1 w.0.leads
+instruction_leads symbols frame total more (InOperand op before AtRegister) s t w = inside symbols frame total more op before AtRegister s t w.0 w.2 tt
+instruction_leads symbols frame total more (InOperand op before AtConstant) s t w = inside symbols frame total more op before AtConstant s t w.0 w.2 tt
+instruction_leads symbols frame total more (InOperand op before AtAddressSymbol) s t w = inside symbols frame total more op before AtAddressSymbol s t w.0 w.2 tt
+instruction_leads symbols frame total more (InOperand op before (AtAddressOffset x)) s t w = inside symbols frame total more op before (AtAddressOffset x) s t w.0 w.2 tt
+instruction_leads symbols frame total more (InOperand op before AtArgumentAddress) s t w = inside symbols frame total more op before AtArgumentAddress s t w.0 w.2 tt
+instruction_leads symbols frame total more (InOperand op before AtFrameAddress) s t w = inside symbols frame total more op before AtFrameAddress s t w.0 w.2 tt
+instruction_leads symbols frame total more (InOperand op before AtSymbol) s t w = inside symbols frame total more op before AtSymbol s t w.0 w.2 tt
+instruction_leads symbols frame total more (InOperand op before (AtOffset x)) s t w = inside symbols frame total more op before (AtOffset x) s t w.0 w.2 tt
+instruction_leads symbols frame total more (InOperand op before AtArgument) s t w = inside symbols frame total more op before AtArgument s t w.0 w.2 tt
+instruction_leads symbols frame total more (InOperand op before AtFrameOffset) s t w = inside symbols frame total more op before AtFrameOffset s t w.0 w.2 tt
+instruction_leads symbols frame total more (InOperand op before AtBase) s t w = inside symbols frame total more op before AtBase s t w.0 w.2 tt
+instruction_leads symbols frame total more (InOperand op before (AtBaseOffset r)) s t w = inside symbols frame total more op before (AtBaseOffset r) s t w.0 w.2 tt
+instruction_leads symbols frame total more (InOperand op before AtLabel) s t w = inside symbols frame total more op before AtLabel s t w.0 w.2 tt
+instruction_leads symbols frame total more (InOperand op before AtFunction) s t w = inside symbols frame total more op before AtFunction s t w.0 w.2 tt

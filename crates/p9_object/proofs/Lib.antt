@@ -1,3 +1,6 @@
 mod Rows
 mod Operands
 mod Instructions
+mod Pieces
+mod Fresh
+mod Symbols

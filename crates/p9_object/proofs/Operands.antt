@@ -1,5 +1,5 @@
 -- Operands: what is read field by field is the operand, and each that is in range is read.
-use Rattle.std.proofs.Common.{◌≡◌, ◌≢◌, ℕ, zero, suc, ◌+◌, ◌-◌, ◌^◌, ◌<◌, ◌≤◌, Bool, true, false, ◌&&◌, ◌||◌, not, List, [], ◌∷◌, ◌++◌, refl, sym, ap, ◌∙◌, arith}
+use Rattle.std.proofs.Common.{◌≡◌, ◌≢◌, ℕ, zero, suc, ◌+◌, ◌-◌, ◌^◌, ◌<◌, ◌≤◌, Bool, true, false, ◌&&◌, ◌||◌, not, List, [], ◌∷◌, ◌++◌, All, refl, sym, ap, ◌∙◌, arith}
 use Rattle.std.specs.Prelude.{nat_lt, nat_le, if◌then◌else◌, ◌==◌, IfSome}
 use Rattle.std.proofs.lemmas.Bool.{cond_both, eqb-true, eq-eqb, ne_eqb, ltb-true, lt-ltb, leb-true, le-leb, and_parts, and_from, true≢false, cases_Bool}
 use Rattle.p9_abs.specs.declared.instructions.Operand.{Operand}
@@ -8,7 +8,7 @@ use Rattle.p9_abs.specs.Forms.{operand_kind}
 use Rattle.p9_abs.specs.Modules.{named_by_operand}
 use Rattle.p9_abs.specs.Validity.{IsRegister, IsInRange, IsWithin}
 use Rattle.p9_object.specs.Fields.{Field, Byte, Half, Word, Chars, operand_fields}
-use Rattle.p9_object.specs.Laws.{OperandFits}
+use Rattle.p9_object.specs.Laws.{OperandFits, IsByte}
 use Rattle.p9_object.specs.Machine.{Turn, Bad, Stay, Whole, stay_if, whole_if, Sort, RegisterSort, ConstantSort, AddressSort, MemorySort, HiLoSort, TargetSort, FunctionSort, sort_of, OperandPlace, AtTag, AtRegister, AtConstant, AtAddressSymbol, AtAddressOffset, AtArgumentAddress, AtFrameAddress, AtSymbol, AtOffset, AtArgument, AtFrameOffset, AtBase, AtBaseOffset, AtLabel, AtFunction, read_operand, Around, is_own_register, is_lasting_register, is_in_frame, tag_step, operand_step}
 
 -- Turns
@@ -94,7 +94,7 @@ abbrev pub FieldFits : Field → Type 0
 FieldFits (Byte n) = n < 2 ^ 8
 FieldFits (Half n) = n < 2 ^ 16
 FieldFits (Word n) = n < 2 ^ 32
-FieldFits (Chars bytes) = Unit {0}
+FieldFits (Chars bytes) = All IsByte bytes
 
 abbrev pub CountGood : (ℕ → Bool) → Operand → Type 0
 CountGood counts (Const c) = counts c ≡ true
