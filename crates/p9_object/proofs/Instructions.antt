@@ -23,7 +23,7 @@ use Rattle.p9_object.specs.Fields.{Field, Byte, Half, Word, Chars, operand_field
 use Rattle.p9_object.specs.Laws.{OperandFits}
 use Rattle.p9_object.specs.Machine.{Turn, Bad, Stay, Whole, Sort, sort_of, sorts, may_follow, shifts, is_constant_of, OperandPlace, AtTag, AtRegister, AtConstant, AtAddressSymbol, AtAddressOffset, AtArgumentAddress, AtFrameAddress, AtSymbol, AtOffset, AtArgument, AtFrameOffset, AtBase, AtBaseOffset, AtLabel, AtFunction, operand_step, read_operand, Around, is_lasting_register, InstructionPlace, AtOperation, InOperand, read_instruction, all_operations, op_among, may_end, with_operands, around, behind_operand, operation_step, instruction_step}
 use Rattle.p9_object.proofs.Rows.{Follow, follows, is_last, Sample, ARegister, ATarget, sample_kind, sample_kinds, HeadCounts, Ends, goes}
-use Rattle.p9_object.proofs.Operands.{nothing, runs, runs_none, runs_append, FieldFits, CountGood, WriteGood, IsPlaced, IsGood, OperandWell, OperandOk, operand_sound, operand_read, Leads, operand_leads, IsInside}
+use Rattle.p9_object.proofs.Operands.{nothing, runs, runs_none, runs_append, FieldFits, CountGood, WriteGood, IsPlaced, IsGood, OperandWell, OperandOk, operand_sound, operand_read, AllFit, fit_append, Leads, operand_leads, IsInside}
 
 abbrev pub kinds : List Operand → List OperandKind
 kinds os = map operand_kind os
@@ -514,25 +514,31 @@ samples_writable (x ∷ y ∷ xs) = writable_cons (sample_operand x) (sample_ope
 
 pub record InstructionLeads (symbols frame total : ℕ) (more : Bool) (p : InstructionPlace) : Type 0 where
   pub fields : List Field
+  pub fits : AllFit fields
   pub instruction : Abs
   pub reads : runs (instruction_step symbols frame total more) (Stay p) fields ≡ Whole instruction
+
+samples_fit : (xs : List Sample) → AllFit (flat_map operand_fields (sample_operands xs))
+samples_fit [] = tt
+samples_fit (ARegister ∷ xs) = (omega arith, (omega arith, samples_fit xs))
+samples_fit (ATarget ∷ xs) = (omega arith, (omega arith, samples_fit xs))
 
 or_true : (b : Bool) → (b || true) ≡ true
 or_true true = refl
 or_true false = refl
 
 -- operands that the form still wants
-from_open : (symbols frame total : ℕ) (more : Bool) (op : Op) (before : List Operand) → 0 < total → Ends (kinds_form op) (may_follow op) (kinds before) → (fs : List Field) × (a : Abs) × (runs (instruction symbols frame total more) (with_operands op before) fs ≡ Whole a)
+from_open : (symbols frame total : ℕ) (more : Bool) (op : Op) (before : List Operand) → 0 < total → Ends (kinds_form op) (may_follow op) (kinds before) → (fs : List Field) × (a : Abs) × (runs (instruction symbols frame total more) (with_operands op before) fs ≡ Whole a) × AllFit fs
 from_open symbols frame total more op before t e =
     let os : List Operand = sample_operands e.0 in
     let follow : Follow (kinds_form op) (may_follow op) (kinds before) (kinds os) = subst (λ (ks : List OperandKind). Follow (kinds_form op) (may_follow op) (kinds before) ks) (sym (same_kinds e.0)) e.1 in
-    (flat_map operand_fields os, made op (before ++ os), run_rest symbols frame total more op before os follow (samples_read op symbols frame total t e.0) (λ w. samples_writable e.0))
+    (flat_map operand_fields os, made op (before ++ os), run_rest symbols frame total more op before os follow (samples_read op symbols frame total t e.0) (λ w. samples_writable e.0), samples_fit e.0)
 
 at_tag : (symbols frame total : ℕ) (more : Bool) (op : Op) (before : List Operand) → 0 < total → is_some (form_of op before) ≡ false → Ends (kinds_form op) (may_follow op) (kinds before) → InstructionLeads symbols frame total more (InOperand op before AtTag)
 at_tag symbols frame total more op before t n e =
     let r = from_open symbols frame total more op before t e in
     let opened : with_operands op before ≡ Stay (InOperand op before AtTag) = ap (λ (b : Bool). if b then Whole (made op before) else Stay (InOperand op before AtTag)) n in
-    record { fields = r.0; instruction = r.1; reads = ap (λ (x : Turn InstructionPlace Abs). runs (instruction symbols frame total more) x r.0) (sym opened) ∙ r.2 }
+    record { fields = r.0; fits = r.3; instruction = r.1; reads = ap (λ (x : Turn InstructionPlace Abs). runs (instruction symbols frame total more) x r.0) (sym opened) ∙ r.2 }
 
 inside : (symbols frame total : ℕ) (more : Bool) (op : Op) (before : List Operand) (p : OperandPlace) → 0 < symbols → 0 < total → OpenWell symbols frame total more op before → OperandWell (around symbols frame total op before) p → IsInside p → InstructionLeads symbols frame total more (InOperand op before p)
 inside symbols frame total more op before p s t w k i =
@@ -541,13 +547,14 @@ inside symbols frame total more op before p s t w k i =
     let here = lift symbols frame total more op before (Stay p) l.fields l.operand l.reads in
     record {
       fields = l.fields ++ r.0;
+      fits = fit_append l.fields r.0 l.fits r.3;
       instruction = r.1;
       reads = runs_append (instruction symbols frame total more) (Stay (InOperand op before p)) l.fields r.0 ∙ ap (λ (x : Turn InstructionPlace Abs). runs (instruction symbols frame total more) x r.0) here ∙ r.2;
     }
 
 pub instruction_leads : (symbols frame total : ℕ) (more : Bool) (p : InstructionPlace) → 0 < symbols → 0 < total → InstructionWell symbols frame total more p → InstructionLeads symbols frame total more p
 instruction_leads symbols frame total more AtOperation s t w =
-    record { fields = Byte 31 ∷ []; instruction = made Ret []; reads = ap (λ (b : Bool). runs (instruction symbols frame total more) (if b then Whole (made Ret []) else Bad) []) (or_true more) }
+    record { fields = Byte 31 ∷ []; fits = (omega arith, tt); instruction = made Ret []; reads = ap (λ (b : Bool). runs (instruction symbols frame total more) (if b then Whole (made Ret []) else Bad) []) (or_true more) }
 instruction_leads symbols frame total more (InOperand op before AtTag) s t w = at_tag symbols frame total more op before t w.1 w.0.leads
 instruction_leads symbols frame total more (InOperand op before AtRegister) s t w = inside symbols frame total more op before AtRegister s t w.0 w.2 tt
 instruction_leads symbols frame total more (InOperand op before AtConstant) s t w = inside symbols frame total more op before AtConstant s t w.0 w.2 tt

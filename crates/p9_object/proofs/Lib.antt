@@ -4,3 +4,4 @@ mod Instructions
 mod Pieces
 mod Fresh
 mod Symbols
+mod Ahead

@@ -240,8 +240,17 @@ operand_read a (AutoAddr v o) g k = absurd k
 
 -- From inside an operand some fields lead to its end.
 
+abbrev pub AllFit : List Field → Type 0
+AllFit [] = Unit {0}
+AllFit (f ∷ fs) = FieldFits f × AllFit fs
+
+pub fit_append : (fs gs : List Field) → AllFit fs → AllFit gs → AllFit (fs ++ gs)
+fit_append [] gs h k = k
+fit_append (f ∷ fs) gs h k = (h.0, fit_append fs gs h.1 k)
+
 pub record Leads (a : Around) (p : OperandPlace) : Type 0 where
   pub fields : List Field
+  pub fits : AllFit fields
   pub operand : Operand
   pub reads : runs (operand_step a) (Stay p) fields ≡ Whole operand
   pub may : a.may (sort_of (operand_kind operand)) ≡ true
@@ -259,21 +268,21 @@ no_and false = refl
 pub operand_leads : (a : Around) (p : OperandPlace) → 0 < a.symbols → 0 < a.total → a.may_be_constant 0 ≡ true → OperandWell a p → IsInside p → Leads a p
 operand_leads a AtTag s t c w k = absurd k
 operand_leads a AtRegister s t c w k =
-    record { fields = Byte 0 ∷ []; operand = Reg 0; reads = register_ends a 0 (omega arith, λ e. omega (arith, e), λ e. omega (arith, e), λ e. omega (arith, e)) (no_and (a.is_written 0)); may = w; counts = tt }
-operand_leads a AtConstant s t c w k = record { fields = Word 0 ∷ []; operand = Const 0; reads = ends a (a.may_be_constant 0) (Const 0) c; may = w; counts = c }
+    record { fields = Byte 0 ∷ []; fits = (omega arith, tt); operand = Reg 0; reads = register_ends a 0 (omega arith, λ e. omega (arith, e), λ e. omega (arith, e), λ e. omega (arith, e)) (no_and (a.is_written 0)); may = w; counts = tt }
+operand_leads a AtConstant s t c w k = record { fields = Word 0 ∷ []; fits = (omega arith, tt); operand = Const 0; reads = ends a (a.may_be_constant 0) (Const 0) c; may = w; counts = c }
 operand_leads a AtAddressSymbol s t c w k =
-    record { fields = Word 0 ∷ Word 0 ∷ []; operand = AddrSB 0 0; reads = passes a (nat_lt 0 a.symbols) (AtAddressOffset 0) (Word 0 ∷ []) (lt-ltb 0 a.symbols s); may = w; counts = tt }
-operand_leads a (AtAddressOffset x) s t c w k = record { fields = Word 0 ∷ []; operand = AddrSB x 0; reads = refl; may = w.0; counts = tt }
-operand_leads a AtArgumentAddress s t c w k = record { fields = Word 0 ∷ []; operand = AddrFP 0; reads = refl; may = w; counts = tt }
+    record { fields = Word 0 ∷ Word 0 ∷ []; fits = (omega arith, (omega arith, tt)); operand = AddrSB 0 0; reads = passes a (nat_lt 0 a.symbols) (AtAddressOffset 0) (Word 0 ∷ []) (lt-ltb 0 a.symbols s); may = w; counts = tt }
+operand_leads a (AtAddressOffset x) s t c w k = record { fields = Word 0 ∷ []; fits = (omega arith, tt); operand = AddrSB x 0; reads = refl; may = w.0; counts = tt }
+operand_leads a AtArgumentAddress s t c w k = record { fields = Word 0 ∷ []; fits = (omega arith, tt); operand = AddrFP 0; reads = refl; may = w; counts = tt }
 operand_leads a AtFrameAddress s t c w k =
-    record { fields = Word (2 ^ 32 - 1) ∷ []; operand = AddrSP (2 ^ 32 - 1); reads = ends a (is_in_frame a.frame (2 ^ 32 - 1)) (AddrSP (2 ^ 32 - 1)) (in_frame_back a.frame (2 ^ 32 - 1) (omega (arith, w.1)) (omega arith)); may = w.0; counts = tt }
+    record { fields = Word (2 ^ 32 - 1) ∷ []; fits = (omega arith, tt); operand = AddrSP (2 ^ 32 - 1); reads = ends a (is_in_frame a.frame (2 ^ 32 - 1)) (AddrSP (2 ^ 32 - 1)) (in_frame_back a.frame (2 ^ 32 - 1) (omega (arith, w.1)) (omega arith)); may = w.0; counts = tt }
 operand_leads a AtSymbol s t c w k =
-    record { fields = Word 0 ∷ Word 0 ∷ []; operand = MemSB 0 0; reads = passes a (nat_lt 0 a.symbols) (AtOffset 0) (Word 0 ∷ []) (lt-ltb 0 a.symbols s); may = w; counts = tt }
-operand_leads a (AtOffset x) s t c w k = record { fields = Word 0 ∷ []; operand = MemSB x 0; reads = refl; may = w.0; counts = tt }
-operand_leads a AtArgument s t c w k = record { fields = Word 0 ∷ []; operand = MemFP 0; reads = refl; may = w; counts = tt }
+    record { fields = Word 0 ∷ Word 0 ∷ []; fits = (omega arith, (omega arith, tt)); operand = MemSB 0 0; reads = passes a (nat_lt 0 a.symbols) (AtOffset 0) (Word 0 ∷ []) (lt-ltb 0 a.symbols s); may = w; counts = tt }
+operand_leads a (AtOffset x) s t c w k = record { fields = Word 0 ∷ []; fits = (omega arith, tt); operand = MemSB x 0; reads = refl; may = w.0; counts = tt }
+operand_leads a AtArgument s t c w k = record { fields = Word 0 ∷ []; fits = (omega arith, tt); operand = MemFP 0; reads = refl; may = w; counts = tt }
 operand_leads a AtFrameOffset s t c w k =
-    record { fields = Word (2 ^ 32 - 1) ∷ []; operand = MemSP (2 ^ 32 - 1); reads = ends a (is_in_frame a.frame (2 ^ 32 - 1)) (MemSP (2 ^ 32 - 1)) (in_frame_back a.frame (2 ^ 32 - 1) (omega (arith, w.1)) (omega arith)); may = w.0; counts = tt }
-operand_leads a AtBase s t c w k = record { fields = Byte 0 ∷ Word 0 ∷ []; operand = MemReg 0 0; reads = refl; may = w; counts = tt }
-operand_leads a (AtBaseOffset r) s t c w k = record { fields = Word 0 ∷ []; operand = MemReg r 0; reads = refl; may = w.0; counts = tt }
-operand_leads a AtLabel s t c w k = record { fields = Word 0 ∷ []; operand = Label 0; reads = ends a (nat_lt 0 a.total) (Label 0) (lt-ltb 0 a.total t); may = w; counts = tt }
-operand_leads a AtFunction s t c w k = record { fields = Word 0 ∷ []; operand = Func 0; reads = ends a (nat_lt 0 a.symbols) (Func 0) (lt-ltb 0 a.symbols s); may = w; counts = tt }
+    record { fields = Word (2 ^ 32 - 1) ∷ []; fits = (omega arith, tt); operand = MemSP (2 ^ 32 - 1); reads = ends a (is_in_frame a.frame (2 ^ 32 - 1)) (MemSP (2 ^ 32 - 1)) (in_frame_back a.frame (2 ^ 32 - 1) (omega (arith, w.1)) (omega arith)); may = w.0; counts = tt }
+operand_leads a AtBase s t c w k = record { fields = Byte 0 ∷ Word 0 ∷ []; fits = (omega arith, (omega arith, tt)); operand = MemReg 0 0; reads = refl; may = w; counts = tt }
+operand_leads a (AtBaseOffset r) s t c w k = record { fields = Word 0 ∷ []; fits = (omega arith, tt); operand = MemReg r 0; reads = refl; may = w.0; counts = tt }
+operand_leads a AtLabel s t c w k = record { fields = Word 0 ∷ []; fits = (omega arith, tt); operand = Label 0; reads = ends a (nat_lt 0 a.total) (Label 0) (lt-ltb 0 a.total t); may = w; counts = tt }
+operand_leads a AtFunction s t c w k = record { fields = Word 0 ∷ []; fits = (omega arith, tt); operand = Func 0; reads = ends a (nat_lt 0 a.symbols) (Func 0) (lt-ltb 0 a.symbols s); may = w; counts = tt }

@@ -3,7 +3,7 @@
 use Rattle.std.proofs.Common.{◌≡◌, ◌≢◌, ℕ, zero, suc, ◌+◌, ◌-◌, ◌*◌, ◌%◌, ◌<◌, ◌≤◌, Bool, true, false, ◌&&◌, ◌||◌, not, List, [], ◌∷◌, ◌++◌, length, replicate, All, refl, sym, ap, subst, ◌∙◌, arith, inl, inr}
 use Rattle.std.specs.Prelude.{nat_lt, nat_le, if◌then◌else◌, ◌==◌, sum_by}
 use Rattle.std.proofs.lemmas.Bool.{cond_both, eqb-true, eq-eqb, ne_eqb, ltb-true, lt-ltb, leb-true, le-leb, and_parts, and_from, true≢false, or_cases}
-use Rattle.std.proofs.lemmas.List.Elements.{All-nil, All-cons, All-head, All-tail}
+use Rattle.std.proofs.lemmas.List.Elements.{All-nil, All-cons, All-head, All-tail, All-replicate}
 use Rattle.std.proofs.lemmas.List.{length-replicate}
 use Rattle.std.proofs.lemmas.List.Sums.{sum_by-cons, sum_by_push}
 use Rattle.p9_abs.specs.declared.modules.DataPiece.{DataPiece}
@@ -11,14 +11,14 @@ use Rattle.p9_abs.specs.declared.modules.DataPiece.TheVariants.{Raw, Address}
 use Rattle.p9_abs.specs.Modules.{piece_size, pieces_size, named_by_piece}
 use Rattle.p9_abs.specs.Validity.{IsWithin, IsFilled, NoRawNeighbours, AddressesAligned}
 use Rattle.p9_object.specs.Fields.{Field, Byte, Half, Word, Chars, piece_fields}
-use Rattle.p9_object.specs.Laws.{PieceFits}
+use Rattle.p9_object.specs.Laws.{PieceFits, IsByte}
 use Rattle.p9_object.specs.Machine.{Turn, Bad, Stay, Whole, stay_if, whole_if, PiecePlace, AtPiece, AtRawLength, AtRaw, AtPieceSymbol, AtPieceOffset, read_piece, size_limit, ends_raw, raw_fits, piece_step}
-use Rattle.p9_object.proofs.Operands.{nothing, stays, wholes, stay_on, whole_on, runs, runs_none, runs_append, FieldFits}
+use Rattle.p9_object.proofs.Operands.{nothing, stays, wholes, stay_on, whole_on, runs, runs_none, runs_append, FieldFits, AllFit}
 use Rattle.p9_object.proofs.Instructions.{all_push}
 
 -- Sizes
 
-size_cons : (p : DataPiece) (ps : List DataPiece) → pieces_size (p ∷ ps) ≡ piece_size p + pieces_size ps
+pub size_cons : (p : DataPiece) (ps : List DataPiece) → pieces_size (p ∷ ps) ≡ piece_size p + pieces_size ps
 size_cons p ps = sum_by-cons piece_size p ps
 
 pub size_push : (ps : List DataPiece) (p : DataPiece) → pieces_size (ps ++ p ∷ []) ≡ pieces_size ps + piece_size p
@@ -191,7 +191,7 @@ good_pieces symbols size (Raw b ∷ Address x o ∷ ps) f n a w =
     (refl, All-head IsFilled (Raw b) rest f, g)
 
 -- all but the last take at least 4 bytes
-least : (symbols size : ℕ) (raw : Bool) (ps : List DataPiece) → size % 4 ≡ 0 → AreGood symbols size raw ps → 4 * length ps ≤ pieces_size ps + 3
+pub least : (symbols size : ℕ) (raw : Bool) (ps : List DataPiece) → size % 4 ≡ 0 → AreGood symbols size raw ps → 4 * length ps ≤ pieces_size ps + 3
 least symbols size raw [] e g = omega arith
 least symbols size raw (Raw b ∷ []) e g = omega (arith, g.1, size_cons (Raw b) [])
 least symbols size raw (Raw b ∷ Raw c ∷ ps) e g = absurd (true≢false g.2.0)
@@ -219,25 +219,31 @@ can_come symbols before (Raw b) (Address x o ∷ ps) e g h =
 
 pub record PieceLeads (symbols : ℕ) (before : List DataPiece) (behind : ℕ) (p : PiecePlace) : Type 0 where
   pub fields : List Field
+  pub fits : AllFit fields
   pub piece : DataPiece
   pub reads : runs (piece_step symbols before behind) (Stay p) fields ≡ Whole piece
 
+zeros_fit : (n : ℕ) → All IsByte (replicate n 0)
+zeros_fit n = All-replicate IsByte n 0 (omega arith)
+
 pub piece_leads : (symbols : ℕ) (before : List DataPiece) (behind : ℕ) (p : PiecePlace) → 0 < symbols → PieceWell symbols before behind p → PieceLeads symbols before behind p
 piece_leads symbols before behind AtPiece s w =
-    record { fields = Byte 1 ∷ Word 0 ∷ Word 0 ∷ []; piece = Address 0 0; reads = passes symbols before behind (nat_lt 0 symbols) (AtPieceOffset 0) (Word 0 ∷ []) (lt-ltb 0 symbols s) }
+    record { fields = Byte 1 ∷ Word 0 ∷ Word 0 ∷ []; fits = (omega arith, (omega arith, (omega arith, tt))); piece = Address 0 0; reads = passes symbols before behind (nat_lt 0 symbols) (AtPieceOffset 0) (Word 0 ∷ []) (lt-ltb 0 symbols s) }
 piece_leads symbols before behind AtPieceSymbol s w =
-    record { fields = Word 0 ∷ Word 0 ∷ []; piece = Address 0 0; reads = passes symbols before behind (nat_lt 0 symbols) (AtPieceOffset 0) (Word 0 ∷ []) (lt-ltb 0 symbols s) }
-piece_leads symbols before behind (AtPieceOffset x) s w = record { fields = Word 0 ∷ []; piece = Address x 0; reads = refl }
+    record { fields = Word 0 ∷ Word 0 ∷ []; fits = (omega arith, (omega arith, tt)); piece = Address 0 0; reads = passes symbols before behind (nat_lt 0 symbols) (AtPieceOffset 0) (Word 0 ∷ []) (lt-ltb 0 symbols s) }
+piece_leads symbols before behind (AtPieceOffset x) s w = record { fields = Word 0 ∷ []; fits = (omega arith, tt); piece = Address x 0; reads = refl }
 piece_leads symbols before behind AtRawLength s w =
     let r : RawRoom (pieces_size before) 4 behind = (omega arith, omega (arith, w.0.1), or_right (behind == 0) (4 % 4 == 0) refl) in
     record {
       fields = Word 4 ∷ Chars (0 ∷ 0 ∷ 0 ∷ 0 ∷ []) ∷ [];
+      fits = (omega arith, (zeros_fit 4, tt));
       piece = Raw (0 ∷ 0 ∷ 0 ∷ 0 ∷ []);
       reads = passes symbols before behind (raw_fits (pieces_size before) 4 behind) (AtRaw 4) (Chars (0 ∷ 0 ∷ 0 ∷ 0 ∷ []) ∷ []) (fits_back (pieces_size before) 4 behind r);
     }
 piece_leads symbols before behind (AtRaw n) s w =
     record {
       fields = Chars (replicate n 0) ∷ [];
+      fits = (zeros_fit n, tt);
       piece = Raw (replicate n 0);
       reads = ap (λ (t : Turn PiecePlace DataPiece). runs (piece_step symbols before behind) t []) (whole_on (length (replicate n 0) == n) (Raw (replicate n 0)) (eq-eqb (length (replicate n 0)) n (length-replicate n 0)));
     }

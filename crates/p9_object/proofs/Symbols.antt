@@ -24,7 +24,7 @@ use Rattle.p9_object.specs.Laws.{OperandFits, PieceFits, CodeFits, IsWord, IsByt
 use Rattle.p9_object.specs.Machine.{Turn, Bad, Stay, Whole, stay_if, whole_if, InstructionPlace, AtOperation, InOperand, read_instruction, instruction_step, PiecePlace, AtPiece, read_piece, size_limit, ends_raw, piece_step, pieces_fit, Kind, DeclaredKind, UsedKind, TextKind, DataKind, CommonKind, number_of_kind, all_kinds, kind_among, defines, Head, SymbolPlace, AtBinding, AtKind, AtNameLength, AtName, AtSignatureLength, AtSignature, AtFrame, AtTotal, InCode, AtPieces, InPieces, AtSize, name_fields, head_fields, read_symbol, is_graphic, is_of_signature, is_named, same_binding, symbol_with, behind_head, with_signature, behind_instruction, behind_piece, kind_step, symbol_step}
 use Rattle.p9_object.proofs.Operands.{nothing, stays, wholes, stay_on, whole_on, runs, runs_none, runs_append, FieldFits}
 use Rattle.p9_object.proofs.Instructions.{all_push, flat_push, EndsFunction, InstructionWell, InstructionOk, IsWhole, instruction_sound, instruction_read, InstructionLeads, instruction_leads}
-use Rattle.p9_object.proofs.Pieces.{size_push, is_raw, ends_push, HasRoom, PieceWell, IsNext, PieceOk, piece_sound, CanCome, piece_read, AreGood, good_pieces, can_come, PieceLeads, piece_leads, parted_push, aligned_push}
+use Rattle.p9_object.proofs.Pieces.{size_cons, least, size_push, is_raw, ends_push, HasRoom, PieceWell, IsNext, PieceOk, piece_sound, CanCome, piece_read, AreGood, good_pieces, can_come, PieceLeads, piece_leads, parted_push, aligned_push}
 use Rattle.p9_object.proofs.Fresh.{IsNew, new_name}
 
 -- What a symbol keeps, whatever the others are, in a module of so many
@@ -206,7 +206,7 @@ pub all_flat : {X Y : Type 0} (P : Y → Type 0) (f : X → List Y) (xs : List X
 all_flat P f [] h = All-nil P
 all_flat P f (x ∷ xs) h = All-append P (f x) (flat_map f xs) (All-head (λ x. All P (f x)) x xs h) (all_flat P f xs (All-tail (λ x. All P (f x)) x xs h))
 
-push_length : {X : Type 0} (xs : List X) (x : X) → length (xs ++ x ∷ []) ≡ length xs + 1
+pub push_length : {X : Type 0} (xs : List X) (x : X) → length (xs ++ x ∷ []) ≡ length xs + 1
 push_length xs x = length-append xs (x ∷ [])
 
 -- a field more behind what stands before
@@ -345,11 +345,11 @@ not_true : (b : Bool) → not b ≡ true → b ≡ false
 not_true true h = nothing h
 not_true false h = refl
 
-unless_empty : (sig : List ℕ) → 1 ≤ length sig → signature_fields sig ≡ Word (length sig) ∷ Chars sig ∷ []
+pub unless_empty : (sig : List ℕ) → 1 ≤ length sig → signature_fields sig ≡ Word (length sig) ∷ Chars sig ∷ []
 unless_empty [] h = absurd (omega arith)
 unless_empty (b ∷ bs) h = refl
 
-empty_signature : IsSignature []
+pub empty_signature : IsSignature []
 empty_signature = (omega arith, All-nil OfSignature)
 
 false_not_true : (l : Bool) (sig : List ℕ) → l ≡ false → l ≡ true → sig ≡ []
@@ -448,3 +448,204 @@ symbol_sound symbols seen (AtSize h) (Word size) k w =
           code_fits = tt;
         }, w.named.unseen))
 symbol_sound symbols seen _ _ k w = tt
+
+-- Each symbol that keeps the rules is read.
+
+pub passes : (symbols : ℕ) (seen : List Symbol) (b : Bool) (p : SymbolPlace) (fs : List Field) → b ≡ true → runs (symbol_step symbols seen) (stay_if b p) fs ≡ runs (symbol_step symbols seen) (Stay p) fs
+passes symbols seen b p fs h = ap (λ (t : Turn SymbolPlace Symbol). runs (symbol_step symbols seen) t fs) (stay_on b p h)
+
+pub lift_code : (symbols : ℕ) (seen : List Symbol) (h : Head) (frame total : ℕ) (before : List Abs) (t : Turn InstructionPlace Abs) (fs : List Field) (a : Abs) → runs (instruction_step symbols frame total (nat_lt (length before + 1) total)) t fs ≡ Whole a → runs (symbol_step symbols seen) (behind_instruction h frame total before t) fs ≡ behind_instruction h frame total before (Whole a)
+lift_code symbols seen h frame total before Bad fs a e = absurd cc
+lift_code symbols seen h frame total before (Stay q) [] a e = absurd cc
+lift_code symbols seen h frame total before (Stay q) (f ∷ fs) a e = lift_code symbols seen h frame total before (instruction_step symbols frame total (nat_lt (length before + 1) total) q f) fs a e
+lift_code symbols seen h frame total before (Whole x) [] a e =
+    let g : x ≡ a = cc in
+    runs_none (symbol_step symbols seen) (behind_instruction h frame total before (Whole x)) ∙ ap (λ (y : Abs). behind_instruction h frame total before (Whole y)) g
+lift_code symbols seen h frame total before (Whole x) (f ∷ fs) a e = absurd cc
+
+pub lift_piece : (symbols : ℕ) (seen : List Symbol) (h : Head) (total : ℕ) (before : List DataPiece) (t : Turn PiecePlace DataPiece) (fs : List Field) (x : DataPiece) → runs (piece_step symbols before (total - (length before + 1))) t fs ≡ Whole x → runs (symbol_step symbols seen) (behind_piece h total before t) fs ≡ behind_piece h total before (Whole x)
+lift_piece symbols seen h total before Bad fs x e = absurd cc
+lift_piece symbols seen h total before (Stay q) [] x e = absurd cc
+lift_piece symbols seen h total before (Stay q) (f ∷ fs) x e = lift_piece symbols seen h total before (piece_step symbols before (total - (length before + 1)) q f) fs x e
+lift_piece symbols seen h total before (Whole y) [] x e =
+    let g : y ≡ x = cc in
+    runs_none (symbol_step symbols seen) (behind_piece h total before (Whole y)) ∙ ap (λ (z : DataPiece). behind_piece h total before (Whole z)) g
+lift_piece symbols seen h total before (Whole y) (f ∷ fs) x e = absurd cc
+
+-- code from here on, in a function that is as long as both parts together
+code_read :
+  (symbols : ℕ) (seen : List Symbol) (h : Head) (frame total : ℕ) (before code : List Abs) → total ≡ length before + length code
+  → All (IsInstruction frame total) code → All (λ a. All (λ o. IsWithin symbols (named_by_operand o)) a.operands) code → EndsWell code
+  → runs (symbol_step symbols seen) (Stay (InCode h frame total before AtOperation)) (flat_map instruction_fields code) ≡ Whole (symbol_with h (Text (record { frame = frame; code = before ++ code })))
+code_read symbols seen h frame total before [] e i n w = absurd w
+code_read symbols seen h frame total before (a ∷ []) e i n w =
+    let N : Abs → Type 0 = λ a. All (λ o. IsWithin symbols (named_by_operand o)) a.operands in
+    let last : nat_lt (length before + 1) total ≡ false = le-ltb (length before + 1) total (omega (arith, e)) in
+    let read = instruction_read symbols frame total (nat_lt (length before + 1) total) a (All-head (IsInstruction frame total) a [] i) (All-head N a [] n) (λ m. w) in
+    ap (λ (fs : List Field). runs (symbol_step symbols seen) (Stay (InCode h frame total before AtOperation)) fs) (append-nil (instruction_fields a))
+      ∙ lift_code symbols seen h frame total before (Stay AtOperation) (instruction_fields a) a read
+      ∙ ap (λ (b : Bool). if b then Stay (InCode h frame total (before ++ a ∷ []) AtOperation) else Whole (symbol_with h (Text (record { frame = frame; code = before ++ a ∷ [] })))) last
+code_read symbols seen h frame total before (a ∷ b ∷ code) e i n w =
+    let N : Abs → Type 0 = λ a. All (λ o. IsWithin symbols (named_by_operand o)) a.operands in
+    let more : nat_lt (length before + 1) total ≡ true = lt-ltb (length before + 1) total (omega (arith, e)) in
+    let read = instruction_read symbols frame total (nat_lt (length before + 1) total) a (All-head (IsInstruction frame total) a (b ∷ code) i) (All-head N a (b ∷ code) n) (λ m. absurd (true≢false (sym more ∙ m))) in
+    let rest : List Field = flat_map instruction_fields (b ∷ code) in
+    let here = lift_code symbols seen h frame total before (Stay AtOperation) (instruction_fields a) a read
+      ∙ ap (λ (b : Bool). if b then Stay (InCode h frame total (before ++ a ∷ []) AtOperation) else Whole (symbol_with h (Text (record { frame = frame; code = before ++ a ∷ [] })))) more in
+    runs_append (symbol_step symbols seen) (Stay (InCode h frame total before AtOperation)) (instruction_fields a) rest
+      ∙ ap (λ (t : Turn SymbolPlace Symbol). runs (symbol_step symbols seen) t rest) here
+      ∙ code_read symbols seen h frame total (before ++ a ∷ []) (b ∷ code) (omega (arith, e, push_length before a)) (All-tail (IsInstruction frame total) a (b ∷ code) i) (All-tail N a (b ∷ code) n) w
+      ∙ ap (λ (c : List Abs). Whole (symbol_with h (Text (record { frame = frame; code = c })))) (append_assoc before (a ∷ []) (b ∷ code))
+
+pub one_piece : (symbols : ℕ) (seen : List Symbol) (h : Head) (total : ℕ) (before : List DataPiece) (x : DataPiece) → CanCome symbols before (total - (length before + 1)) x → runs (symbol_step symbols seen) (Stay (InPieces h total before AtPiece)) (piece_fields x) ≡ behind_piece h total before (Whole x)
+one_piece symbols seen h total before x c = lift_piece symbols seen h total before (Stay AtPiece) (piece_fields x) x (piece_read symbols before (total - (length before + 1)) x c)
+
+next_size : (symbols : ℕ) (before : List DataPiece) (x y : DataPiece) (ps : List DataPiece) → pieces_size before % 4 ≡ 0 → AreGood symbols (pieces_size before) (ends_raw before) (x ∷ y ∷ ps) → (pieces_size (before ++ x ∷ []) % 4 ≡ 0) × AreGood symbols (pieces_size (before ++ x ∷ [])) (ends_raw (before ++ x ∷ [])) (y ∷ ps)
+next_size symbols before (Address s o) y ps e g =
+    let size : pieces_size (before ++ Address s o ∷ []) ≡ pieces_size before + 4 = size_push before (Address s o) in
+    (omega (arith, size, e), subst (λ (n : ℕ). AreGood symbols n (ends_raw (before ++ Address s o ∷ [])) (y ∷ ps)) (sym size) (subst (λ (b : Bool). AreGood symbols (pieces_size before + 4) b (y ∷ ps)) (sym (ends_push before (Address s o))) g.2))
+next_size symbols before (Raw b) (Raw c) ps e g = absurd (true≢false g.2.0)
+next_size symbols before (Raw b) (Address s o) ps e g =
+    let size : pieces_size (before ++ Raw b ∷ []) ≡ pieces_size before + length b = size_push before (Raw b) in
+    (omega (arith, size, g.2.0), subst (λ (n : ℕ). AreGood symbols n (ends_raw (before ++ Raw b ∷ [])) (Address s o ∷ ps)) (sym size) (subst (λ (r : Bool). AreGood symbols (pieces_size before + length b) r (Address s o ∷ ps)) (sym (ends_push before (Raw b))) g.2))
+
+pieces_read :
+  (symbols : ℕ) (seen : List Symbol) (h : Head) (total : ℕ) (before : List DataPiece) (x : DataPiece) (ps : List DataPiece) → total ≡ length before + length (x ∷ ps)
+  → pieces_size before % 4 ≡ 0 → AreGood symbols (pieces_size before) (ends_raw before) (x ∷ ps) → pieces_size before + pieces_size (x ∷ ps) ≤ size_limit
+  → runs (symbol_step symbols seen) (Stay (InPieces h total before AtPiece)) (flat_map piece_fields (x ∷ ps)) ≡ Whole (symbol_with h (Data (before ++ x ∷ ps)))
+pieces_read symbols seen h total before x [] e z g m =
+    let last : nat_lt (length before + 1) total ≡ false = le-ltb (length before + 1) total (omega (arith, e)) in
+    let left : 0 ≡ total - (length before + 1) = omega (arith, e) in
+    let c = subst (λ (n : ℕ). CanCome symbols before n x) left (can_come symbols before x [] z g m) in
+    ap (λ (fs : List Field). runs (symbol_step symbols seen) (Stay (InPieces h total before AtPiece)) fs) (append-nil (piece_fields x))
+      ∙ one_piece symbols seen h total before x c
+      ∙ ap (λ (b : Bool). if b then Stay (InPieces h total (before ++ x ∷ []) AtPiece) else Whole (symbol_with h (Data (before ++ x ∷ [])))) last
+pieces_read symbols seen h total before x (y ∷ ps) e z g m =
+    let more : nat_lt (length before + 1) total ≡ true = lt-ltb (length before + 1) total (omega (arith, e)) in
+    let left : length (y ∷ ps) ≡ total - (length before + 1) = omega (arith, e) in
+    let c = subst (λ (n : ℕ). CanCome symbols before n x) left (can_come symbols before x (y ∷ ps) z g m) in
+    let rest : List Field = flat_map piece_fields (y ∷ ps) in
+    let here = one_piece symbols seen h total before x c
+      ∙ ap (λ (b : Bool). if b then Stay (InPieces h total (before ++ x ∷ []) AtPiece) else Whole (symbol_with h (Data (before ++ x ∷ [])))) more in
+    let next = next_size symbols before x y ps z g in
+    let fits : pieces_size (before ++ x ∷ []) + pieces_size (y ∷ ps) ≤ size_limit = omega (arith, m, size_push before x, size_cons x (y ∷ ps)) in
+    runs_append (symbol_step symbols seen) (Stay (InPieces h total before AtPiece)) (piece_fields x) rest
+      ∙ ap (λ (t : Turn SymbolPlace Symbol). runs (symbol_step symbols seen) t rest) here
+      ∙ pieces_read symbols seen h total (before ++ x ∷ []) y ps (omega (arith, e, push_length before x)) next.0 next.1 fits
+      ∙ ap (λ (c : List DataPiece). Whole (symbol_with h (Data c))) (append_assoc before (x ∷ []) (y ∷ ps))
+
+all_left : {X : Type 0} (P : X → Type 0) (xs ys : List X) → All P (xs ++ ys) → All P xs
+all_left P [] ys h = All-nil P
+all_left P (x ∷ xs) ys h = All-cons P x xs (All-head P x (xs ++ ys) h) (all_left P xs ys (All-tail P x (xs ++ ys) h))
+
+all_right : {X : Type 0} (P : X → Type 0) (xs ys : List X) → All P (xs ++ ys) → All P ys
+all_right P [] ys h = h
+all_right P (x ∷ xs) ys h = all_right P xs ys (All-tail P x (xs ++ ys) h)
+
+all_parts : {X Y : Type 0} (P : Y → Type 0) (f : X → List Y) (xs : List X) → All P (flat_map f xs) → All (λ x. All P (f x)) xs
+all_parts P f [] h = All-nil (λ x. All P (f x))
+all_parts P f (x ∷ xs) h = All-cons (λ x. All P (f x)) x xs (all_left P (f x) (flat_map f xs) h) (all_parts P f xs (all_right P (f x) (flat_map f xs) h))
+
+-- bodies
+
+abbrev pub kind_of : Body → Kind
+kind_of Declared = DeclaredKind
+kind_of Used = UsedKind
+kind_of (Text def) = TextKind
+kind_of (Data pieces) = DataKind
+kind_of (Common size) = CommonKind
+
+pub body_read :
+  (symbols : ℕ) (seen : List Symbol) (h : Head) (body : Body) → HasFunction body → HasWellPieced body → HasSizeInRange body → NamesWithin symbols body → CodeFits body
+  → runs (symbol_step symbols seen) (behind_head h (kind_of body)) (body_fields body) ≡ Whole (symbol_with h body)
+body_read symbols seen h Declared f p z n c = refl
+body_read symbols seen h Used f p z n c = refl
+body_read symbols seen h (Common size) f p z n c =
+    ap (λ (t : Turn SymbolPlace Symbol). runs (symbol_step symbols seen) t []) (whole_on (nat_lt 0 size && nat_le size size_limit) (symbol_with h (Common size)) (and_from (nat_lt 0 size) (nat_le size size_limit) (lt-ltb 0 size (omega (arith, z.0))) (le-leb size size_limit z.1)))
+body_read symbols seen h (Text def) f p z n c =
+    let fs : List Field = flat_map instruction_fields def.code in
+    passes symbols seen ((def.frame % 4 == 0) && nat_le def.frame 16777212) (AtTotal h def.frame) (Word (length def.code) ∷ fs) (and_from (def.frame % 4 == 0) (nat_le def.frame 16777212) (eq-eqb (def.frame % 4) 0 f.frame.0) (le-leb def.frame 16777212 f.frame.1))
+      ∙ passes symbols seen (nat_lt 0 (length def.code) && nat_lt (length def.code) (2 ^ 32)) (InCode h def.frame (length def.code) [] AtOperation) fs (and_from (nat_lt 0 (length def.code)) (nat_lt (length def.code) (2 ^ 32)) (lt-ltb 0 (length def.code) (some def.code f.ending)) (lt-ltb (length def.code) (2 ^ 32) c))
+      ∙ code_read symbols seen h def.frame (length def.code) [] def.code (omega arith) f.instructions (all_parts (λ o. IsWithin symbols (named_by_operand o)) (λ (a : Abs). a.operands) def.code n.0) f.ending
+  where
+    some : (code : List Abs) → EndsWell code → 0 < length code
+    some [] w = absurd w
+    some (i ∷ code) w = omega arith
+body_read symbols seen h (Data []) f p z n c = absurd (none p.some)
+  where
+    none : 1 ≤ 0 → ⊥
+    none h = omega (arith, h)
+body_read symbols seen h (Data (x ∷ ps)) f p z n c =
+    let fs : List Field = flat_map piece_fields (x ∷ ps) in
+    let g = good_pieces symbols 0 (x ∷ ps) p.filled p.parted p.aligned n.1 in
+    passes symbols seen (pieces_fit (length (x ∷ ps))) (InPieces h (length (x ∷ ps)) [] AtPiece) fs (and_from (nat_lt 0 (length (x ∷ ps))) (nat_le (length (x ∷ ps)) 4194304) (lt-ltb 0 (length (x ∷ ps)) (omega arith)) (le-leb (length (x ∷ ps)) 4194304 (omega (arith, least symbols 0 false (x ∷ ps) refl g, z.1))))
+      ∙ pieces_read symbols seen h (length (x ∷ ps)) [] x ps (omega arith) refl g (omega (arith, z.1))
+
+abbrev head_of : Symbol → Head
+head_of s = record { local = s.local; kind = kind_of s.body; name = s.name; sig = s.sig }
+
+bound_kind : (s : Symbol) → IsBoundWell s → (not s.local || defines (kind_of s.body)) ≡ true
+bound_kind s h = by s.local refl
+  where
+    as_kind : (body : Body) → is_definition body ≡ true → defines (kind_of body) ≡ true
+    as_kind Declared e = e
+    as_kind Used e = e
+    as_kind (Text def) e = e
+    as_kind (Data pieces) e = e
+    as_kind (Common size) e = e
+    by : (l : Bool) → s.local ≡ l → (not s.local || defines (kind_of s.body)) ≡ true
+    by true e = ap (λ (b : Bool). not b || defines (kind_of s.body)) e ∙ as_kind s.body (h e).0
+    by false e = ap (λ (b : Bool). not b || defines (kind_of s.body)) e
+
+kind_read : (k : Kind) → kind_among all_kinds (number_of_kind k) ≡ Some k
+kind_read DeclaredKind = refl
+kind_read UsedKind = refl
+kind_read TextKind = refl
+kind_read DataKind = refl
+kind_read CommonKind = refl
+
+kind_numbers : (body : Body) → kind_number body ≡ number_of_kind (kind_of body)
+kind_numbers Declared = refl
+kind_numbers Used = refl
+kind_numbers (Text def) = refl
+kind_numbers (Data pieces) = refl
+kind_numbers (Common size) = refl
+
+signature_read : (symbols : ℕ) (seen : List Symbol) (l : Bool) (k : Kind) (name sig : List ℕ) → IsSignature sig → (l ≡ true → sig ≡ []) → runs (symbol_step symbols seen) (Stay (AtSignatureLength l k name)) (signature_fields sig) ≡ with_signature l k name sig
+signature_read symbols seen l k name [] g b = runs_none (symbol_step symbols seen) (with_signature l k name [])
+signature_read symbols seen l k name (c ∷ sig) g b =
+    let n : ℕ = length (c ∷ sig) in
+    let whole : List ℕ = c ∷ sig in
+    let open_local : not l ≡ true = by l refl in
+    ap (λ (t : Bool). runs (symbol_step symbols seen) (if t then with_signature l k name [] else stay_if (not l && nat_le n 65536) (AtSignature l k name n)) (Chars whole ∷ [])) (ne_eqb n 0 (λ e. omega (arith, e)))
+      ∙ passes symbols seen (not l && nat_le n 65536) (AtSignature l k name n) (Chars whole ∷ []) (and_from (not l) (nat_le n 65536) open_local (le-leb n 65536 g.0))
+      ∙ ap (λ (t : Bool). runs (symbol_step symbols seen) (if t then with_signature l k name whole else Bad) []) (and_from (length whole == n) (list_all is_of_signature whole) (eq-eqb n n refl) (all_of_signature_back whole g.1))
+      ∙ runs_none (symbol_step symbols seen) (with_signature l k name whole)
+  where
+    by : (m : Bool) → l ≡ m → not l ≡ true
+    by true e = absurd (cons_not_nil (b e))
+      where
+        cons_not_nil : c ∷ sig ≡ [] → ⊥
+        cons_not_nil h = cc
+    by false e = ap (λ (b : Bool). not b) e
+
+pub symbol_read : (symbols : ℕ) (seen : List Symbol) (s : Symbol) → IsSymbol symbols s → IsUnseen seen s.local s.name → runs (symbol_step symbols seen) (Stay AtBinding) (symbol_fields s) ≡ Whole s
+symbol_read symbols seen s g u =
+    let k : Kind = kind_of s.body in
+    let step : SymbolPlace → Field → Turn SymbolPlace Symbol = symbol_step symbols seen in
+    let rest : List Field = signature_fields s.sig ++ body_fields s.body in
+    ap (λ (n : ℕ). runs step (Stay AtBinding) (Byte (binding_number s.local) ∷ Byte n ∷ Half (length s.name) ∷ Chars s.name ∷ rest)) (kind_numbers s.body)
+      ∙ binding s.local (Byte (number_of_kind k) ∷ Half (length s.name) ∷ Chars s.name ∷ rest)
+      ∙ ap (λ (x : Option Kind). runs step (kind_step s.local x) (Half (length s.name) ∷ Chars s.name ∷ rest)) (kind_read k)
+      ∙ passes symbols seen (not s.local || defines k) (AtNameLength s.local k) (Half (length s.name) ∷ Chars s.name ∷ rest) (bound_kind s g.bound)
+      ∙ passes symbols seen (nat_lt 0 (length s.name) && nat_le (length s.name) 255) (AtName s.local k (length s.name)) (Chars s.name ∷ rest) (and_from (nat_lt 0 (length s.name)) (nat_le (length s.name) 255) (lt-ltb 0 (length s.name) (omega (arith, g.name.0))) (le-leb (length s.name) 255 g.name.1))
+      ∙ passes symbols seen ((length s.name == length s.name) && (list_all is_graphic s.name && not (list_any (is_named s.local s.name) seen))) (AtSignatureLength s.local k s.name) rest
+          (and_from (length s.name == length s.name) (list_all is_graphic s.name && not (list_any (is_named s.local s.name) seen)) (eq-eqb (length s.name) (length s.name) refl)
+            (and_from (list_all is_graphic s.name) (not (list_any (is_named s.local s.name) seen)) (all_graphic_back s.name g.name.2) (ap (λ (b : Bool). not b) u)))
+      ∙ runs_append step (Stay (AtSignatureLength s.local k s.name)) (signature_fields s.sig) (body_fields s.body)
+      ∙ ap (λ (t : Turn SymbolPlace Symbol). runs step t (body_fields s.body)) (signature_read symbols seen s.local k s.name s.sig g.signature (λ e. (g.bound e).1))
+      ∙ body_read symbols seen (head_of s) s.body g.function g.pieces g.size g.numbers g.code_fits
+  where
+    binding : (l : Bool) (fs : List Field) → runs (symbol_step symbols seen) (Stay AtBinding) (Byte (binding_number l) ∷ fs) ≡ runs (symbol_step symbols seen) (Stay (AtKind l)) fs
+    binding true fs = refl
+    binding false fs = refl
