@@ -5,3 +5,4 @@ mod Pieces
 mod Fresh
 mod Symbols
 mod Ahead
+mod Objects
