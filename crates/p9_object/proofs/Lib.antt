@@ -6,3 +6,5 @@ mod Fresh
 mod Symbols
 mod Ahead
 mod Objects
+mod Widths
+mod Fitting

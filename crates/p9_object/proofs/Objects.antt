@@ -108,7 +108,7 @@ as_object xs few each apart = record {
   };
 }
 
-each_in : (xs : List Symbol) → IsObject (record { symbols = xs }) → All (IsSymbol (length xs)) xs
+pub each_in : (xs : List Symbol) → IsObject (record { symbols = xs }) → All (IsSymbol (length xs)) xs
 each_in xs o k d lt = record {
   name = o.valid.names k d lt;
   bound = o.valid.locals k d lt;
@@ -168,7 +168,7 @@ ok_ifs : (Q : Result State Break → Type 0) (b : Bool) (s : State) → Q (Err N
 ok_ifs Q true s bad ok = ok refl
 ok_ifs Q false s bad ok = bad
 
-same_bytes : (xs ys : List ℕ) → bytes_eq xs ys ≡ true → xs ≡ ys
+pub same_bytes : (xs ys : List ℕ) → bytes_eq xs ys ≡ true → xs ≡ ys
 same_bytes xs ys h = by (bytes_eq xs ys) h (bytes_eq-Decides xs ys)
   where
     by : (b : Bool) → b ≡ true → Decides b (xs ≡ ys) → xs ≡ ys
@@ -311,7 +311,7 @@ named_place count before _ h = tt
 version_fits : FieldFits (Word version)
 version_fits = omega arith
 
-magic_fits : FieldFits (Chars magic)
+pub magic_fits : FieldFits (Chars magic)
 magic_fits = All-cons IsByte 118 (57 ∷ 111 ∷ 10 ∷ []) (omega arith) (All-cons IsByte 57 (111 ∷ 10 ∷ []) (omega arith) (All-cons IsByte 111 (10 ∷ []) (omega arith) (All-cons IsByte 10 [] (omega arith) (All-nil IsByte))))
 
 progress : (s : State) → Well s → (IsBehindLength s → ⊥) → Reach (Ok s)
