@@ -96,7 +96,7 @@ ahead_of_body symbols seen h DataKind s =
 ahead_of_name : (symbols : ℕ) (seen : List Symbol) (l : Bool) (k : Kind) (name : List ℕ) → 0 < symbols → Ahead symbols seen (Stay (AtSignatureLength l k name))
 ahead_of_name symbols seen l k name s =
     one symbols seen (AtSignatureLength l k name) (Word 0) (with_signature l k name []) (omega arith) refl
-      (ahead_of_body symbols seen (record { local = l; kind = k; name = name; sig = [] }) k s)
+    (ahead_of_body symbols seen (record { local = l; kind = k; name = name; sig = [] }) k s)
 
 all_bytes : (name : List ℕ) → list_all is_graphic name ≡ true → All IsByte name
 all_bytes [] h = All-nil IsByte
@@ -110,8 +110,8 @@ ahead_of_length symbols seen l k s few =
     let n = new_name l seen few in
     let long : (length n.text == 32) ≡ true = eq-eqb (length n.text) 32 n.long in
     one symbols seen (AtNameLength l k) (Half 32) (Stay (AtName l k 32)) (omega arith) refl
-      (one symbols seen (AtName l k 32) (Chars n.text) (Stay (AtSignatureLength l k n.text)) (all_bytes n.text n.graphic) (rw (long, n.graphic, n.new) refl)
-        (ahead_of_name symbols seen l k n.text s))
+    (one symbols seen (AtName l k 32) (Chars n.text) (Stay (AtSignatureLength l k n.text)) (all_bytes n.text n.graphic) (rw (long, n.graphic, n.new) refl)
+    (ahead_of_name symbols seen l k n.text s))
 
 or_true : (b : Bool) → (b || true) ≡ true
 or_true true = refl
@@ -130,8 +130,8 @@ ahead_of_signature symbols seen l k name n s =
     let sig : List ℕ = replicate n 33 in
     let good : ((length sig == n) && list_all is_of_signature sig) ≡ true = and_from (length sig == n) (list_all is_of_signature sig) (eq-eqb (length sig) n (length-replicate n 33)) (signs n) in
     one symbols seen (AtSignature l k name n) (Chars sig) (with_signature l k name sig) (All-replicate IsByte n 33 (omega arith))
-      (ap (λ (b : Bool). if b then with_signature l k name sig else Bad) good)
-      (ahead_of_body symbols seen (record { local = l; kind = k; name = name; sig = sig }) k s)
+    (ap (λ (b : Bool). if b then with_signature l k name sig else Bad) good)
+    (ahead_of_body symbols seen (record { local = l; kind = k; name = name; sig = sig }) k s)
 
 -- Code
 
@@ -142,15 +142,15 @@ ahead_in_code : (d symbols : ℕ) (seen : List Symbol) (h : Head) (frame total :
 ahead_in_code zero symbols seen h frame total before a e =
     let last : nat_lt (length before + 1) total ≡ false = le-ltb (length before + 1) total (omega (arith, e)) in
     at_turn symbols seen (behind_instruction h frame total before (Whole a)) (Whole (symbol_with h (Text (record { frame = frame; code = before ++ a ∷ [] })))) (rw last refl)
-      (at_end symbols seen (symbol_with h (Text (record { frame = frame; code = before ++ a ∷ [] }))))
+    (at_end symbols seen (symbol_with h (Text (record { frame = frame; code = before ++ a ∷ [] }))))
 ahead_in_code (suc d) symbols seen h frame total before a e =
     let more : nat_lt (length before + 1) total ≡ true = lt-ltb (length before + 1) total (omega (arith, e)) in
     let next : List Abs = before ++ a ∷ [] in
     let fits : total ≡ length next + 1 + d = omega (arith, e, push_length before a) in
     at_turn symbols seen (behind_instruction h frame total before (Whole a)) (Stay (InCode h frame total next AtOperation)) (rw more refl)
-      (one symbols seen (InCode h frame total next AtOperation) (Byte 31) (behind_instruction h frame total next (Whole ret)) (omega arith)
-        (ap (λ (t : Turn InstructionPlace Abs). behind_instruction h frame total next t) (ret_read symbols frame total (nat_lt (length next + 1) total)))
-        (ahead_in_code d symbols seen h frame total next ret fits))
+    (one symbols seen (InCode h frame total next AtOperation) (Byte 31) (behind_instruction h frame total next (Whole ret)) (omega arith)
+    (ap (λ (t : Turn InstructionPlace Abs). behind_instruction h frame total next t) (ret_read symbols frame total (nat_lt (length next + 1) total)))
+    (ahead_in_code d symbols seen h frame total next ret fits))
 
 -- Data
 
@@ -163,8 +163,8 @@ ahead_in_data (suc d) symbols seen h total before x s e =
     let next : List DataPiece = before ++ x ∷ [] in
     let fits : total ≡ length next + 1 + d = omega (arith, e, push_length before x) in
     at_turn symbols seen (behind_piece h total before (Whole x)) (Stay (InPieces h total next AtPiece)) (rw more refl)
-      (further symbols seen (InPieces h total next AtPiece) (piece_fields (Address 0 0)) (behind_piece h total next (Whole (Address 0 0))) (omega arith, (omega arith, (omega arith, tt))) (one_piece symbols seen h total next (Address 0 0) s)
-        (ahead_in_data d symbols seen h total next (Address 0 0) s fits))
+    (further symbols seen (InPieces h total next AtPiece) (piece_fields (Address 0 0)) (behind_piece h total next (Whole (Address 0 0))) (omega arith, (omega arith, (omega arith, tt))) (one_piece symbols seen h total next (Address 0 0) s)
+    (ahead_in_data d symbols seen h total next (Address 0 0) s fits))
 
 -- Places
 
@@ -182,17 +182,17 @@ ahead symbols seen (AtSignature l k name m) s few w n = ahead_of_signature symbo
 ahead symbols seen (AtFrame h) s few w n = ahead_of_body symbols seen h TextKind s
 ahead symbols seen (AtTotal h frame) s few w n =
     one symbols seen (AtTotal h frame) (Word 1) (Stay (InCode h frame 1 [] AtOperation)) (omega arith) refl
-      (one symbols seen (InCode h frame 1 [] AtOperation) (Byte 31) (Whole (symbol_with h (Text (record { frame = frame; code = ret ∷ [] })))) (omega arith) refl
-        (at_end symbols seen (symbol_with h (Text (record { frame = frame; code = ret ∷ [] })))))
+    (one symbols seen (InCode h frame 1 [] AtOperation) (Byte 31) (Whole (symbol_with h (Text (record { frame = frame; code = ret ∷ [] })))) (omega arith) refl
+    (at_end symbols seen (symbol_with h (Text (record { frame = frame; code = ret ∷ [] })))))
 ahead symbols seen (InCode h frame total before p) s few w n =
     let c = w.1 in
     let l = instruction_leads symbols frame total (nat_lt (length before + 1) total) p s (omega (arith, c.room)) c.place in
     further symbols seen (InCode h frame total before p) l.fields (behind_instruction h frame total before (Whole l.instruction)) l.fits (lift_code symbols seen h frame total before (Stay p) l.fields l.instruction l.reads)
-      (ahead_in_code (total - (length before + 1)) symbols seen h frame total before l.instruction (omega (arith, c.room)))
+    (ahead_in_code (total - (length before + 1)) symbols seen h frame total before l.instruction (omega (arith, c.room)))
 ahead symbols seen (AtPieces h) s few w n = ahead_of_body symbols seen h DataKind s
 ahead symbols seen (InPieces h total before p) s few w n =
     let c = w.1 in
     let l = piece_leads symbols before (total - (length before + 1)) p s c.place in
     further symbols seen (InPieces h total before p) l.fields (behind_piece h total before (Whole l.piece)) l.fits (lift_piece symbols seen h total before (Stay p) l.fields l.piece l.reads)
-      (ahead_in_data (total - (length before + 1)) symbols seen h total before l.piece s (omega (arith, c.room)))
+    (ahead_in_data (total - (length before + 1)) symbols seen h total before l.piece s (omega (arith, c.room)))
 ahead symbols seen (AtSize h) s few w n = ahead_of_body symbols seen h CommonKind s

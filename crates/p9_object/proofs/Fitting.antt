@@ -78,17 +78,19 @@ operands_fit n frame total [] a b h w f = tt
 operands_fit n frame total (o ∷ os) a b h w f =
     let W : Operand → Type 0 = λ o. IsWithin n (named_by_operand o) in
     fit_append (operand_fields o) (flat_map operand_fields os)
-      (operand_fit n frame total o a b (All-head (IsInRange frame total) o os h) (All-head W o os w) (All-head OperandFits o os f))
-      (operands_fit n frame total os a b (All-tail (IsInRange frame total) o os h) (All-tail W o os w) (All-tail OperandFits o os f))
+    (operand_fit n frame total o a b (All-head (IsInRange frame total) o os h) (All-head W o os w) (All-head OperandFits o os f))
+    (operands_fit n frame total os a b (All-tail (IsInRange frame total) o os h) (All-tail W o os w) (All-tail OperandFits o os f))
 
 code_fit : (n frame total : ℕ) (code : List Abs) → n < 2 ^ 32 → total < 2 ^ 32 → All (IsInstruction frame total) code → All (λ (a : Abs). All (λ o. IsWithin n (named_by_operand o)) a.operands) code → All (λ (a : Abs). All OperandFits a.operands) code → AllFit (flat_map instruction_fields code)
 code_fit n frame total [] a b h w f = tt
 code_fit n frame total (x ∷ xs) a b h w f =
     let W : Abs → Type 0 = λ a. All (λ o. IsWithin n (named_by_operand o)) a.operands in
-    let F : Abs → Type 0 = λ a. All OperandFits a.operands in
-    (op_fits x.op, fit_append (flat_map operand_fields x.operands) (flat_map instruction_fields xs)
-      (operands_fit n frame total x.operands a b (All-head (IsInstruction frame total) x xs h).operands (All-head W x xs w) (All-head F x xs f))
-      (code_fit n frame total xs a b (All-tail (IsInstruction frame total) x xs h) (All-tail W x xs w) (All-tail F x xs f)))
+    let F : Abs → Type 0 = λ a. All OperandFits a.operands in (
+      op_fits x.op,
+      fit_append (flat_map operand_fields x.operands) (flat_map instruction_fields xs)
+          (operands_fit n frame total x.operands a b (All-head (IsInstruction frame total) x xs h).operands (All-head W x xs w) (All-head F x xs f))
+          (code_fit n frame total xs a b (All-tail (IsInstruction frame total) x xs h) (All-tail W x xs w) (All-tail F x xs f)),
+    )
 
 pieces_fit : (n : ℕ) (ps : List DataPiece) → n < 2 ^ 32 → pieces_size ps < 2 ^ 32 → All (λ x. IsWithin n (named_by_piece x)) ps → All PieceFits ps → AllFit (flat_map piece_fields ps)
 pieces_fit n [] a z w f = tt
@@ -133,10 +135,20 @@ kind_fits (Data pieces) = omega arith
 kind_fits (Common size) = omega arith
 
 symbol_fit : (n : ℕ) (s : Symbol) → n < 2 ^ 32 → IsSymbol n s → AllFit (symbol_fields s)
-symbol_fit n s a g =
-    (binding_fits s.local, (kind_fits s.body, (omega (arith, g.name.1), (bytes_of_name s.name g.name.2,
-      fit_append (signature_fields s.sig) (body_fields s.body) (signature_fit s.sig g.signature.0 (λ k d lt. omega (arith, (g.signature.1 k d lt).1)))
-        (body_fit n s.body a g.function g.pieces g.size g.numbers g.operands_fit g.pieces_fit g.code_fits)))))
+symbol_fit n s a g = (
+  binding_fits s.local,
+  (
+    kind_fits s.body,
+    (
+      omega (arith, g.name.1),
+      (
+        bytes_of_name s.name g.name.2,
+        fit_append (signature_fields s.sig) (body_fields s.body) (signature_fit s.sig g.signature.0 (λ k d lt. omega (arith, (g.signature.1 k d lt).1)))
+            (body_fit n s.body a g.function g.pieces g.size g.numbers g.operands_fit g.pieces_fit g.code_fits),
+      ),
+    ),
+  ),
+)
 
 symbols_fit : (n : ℕ) (xs : List Symbol) → n < 2 ^ 32 → All (IsSymbol n) xs → AllFit (flat_map symbol_fields xs)
 symbols_fit n [] a h = tt

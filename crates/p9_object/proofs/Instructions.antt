@@ -247,6 +247,7 @@ write_good op before (Reg r) os e w = by os e (writes_last op) refl w
   where
     here : is_some (form_of op (before ++ Reg r ∷ [])) ≡ is_some (kinds_form op (kinds before ++ kind.Register r ∷ []))
     here = ap (λ (ks : List OperandKind). is_some (kinds_form op ks)) (kinds_push before (Reg r))
+
     by : (os : List Operand) → is_some (kinds_form op (kinds before ++ kind.Register r ∷ [])) ≡ is_last (kinds os) → (b : Bool) → writes_last op ≡ b → (writes_last op ≡ true → IsWritable (Reg r ∷ os)) → ((writes_last op && is_some (form_of op (before ++ Reg r ∷ []))) && is_lasting_register r) ≡ false
     by os e false f w = ap (λ (b : Bool). (b && is_some (form_of op (before ++ Reg r ∷ []))) && is_lasting_register r) f
     by [] e true f w = let g = w f in ap (λ (b : Bool). (writes_last op && is_some (form_of op (before ++ Reg r ∷ []))) && b) (lasting_false r g.0 g.1 g.2) ∙ off (writes_last op && is_some (form_of op (before ++ Reg r ∷ [])))
@@ -279,12 +280,12 @@ abbrev made : Op → List Operand → Abs
 made op os = record { op = op; operands = os }
 
 pub run_rest :
-  (symbols frame total : ℕ) (more : Bool) (op : Op) (before os : List Operand) → Follow (kinds_form op) (may_follow op) (kinds before) (kinds os)
-  → All (Read op symbols frame total) os → (writes_last op ≡ true → IsWritable os)
-  → runs (instruction symbols frame total more) (with_operands op before) (flat_map operand_fields os) ≡ Whole (made op (before ++ os))
+    (symbols frame total : ℕ) (more : Bool) (op : Op) (before os : List Operand) → Follow (kinds_form op) (may_follow op) (kinds before) (kinds os)
+    → All (Read op symbols frame total) os → (writes_last op ≡ true → IsWritable os)
+    → runs (instruction symbols frame total more) (with_operands op before) (flat_map operand_fields os) ≡ Whole (made op (before ++ os))
 run_rest symbols frame total more op before [] h r w =
     ap (λ (b : Bool). runs (instruction symbols frame total more) (if b then Whole (made op before) else Stay (InOperand op before AtTag)) []) h
-      ∙ ap (λ (os : List Operand). Whole (made op os)) (sym (append-nil before))
+    ∙ ap (λ (os : List Operand). Whole (made op os)) (sym (append-nil before))
 run_rest symbols frame total more op before (o ∷ os) h r w =
     let P : Operand → Type 0 = Read op symbols frame total in
     let i : InstructionPlace → Field → Turn InstructionPlace Abs = instruction symbols frame total more in
@@ -296,10 +297,10 @@ run_rest symbols frame total more op before (o ∷ os) h r w =
     let read : runs i (Stay (InOperand op before AtTag)) (operand_fields o) ≡ with_operands op (before ++ o ∷ []) = lift symbols frame total more op before (Stay AtTag) (operand_fields o) o (operand_read a o good (placed frame total o here.range)) in
     let follow : Follow (kinds_form op) (may_follow op) (kinds (before ++ o ∷ [])) (kinds os) = subst (λ (ks : List OperandKind). Follow (kinds_form op) (may_follow op) ks (kinds os)) (sym (kinds_push before o)) h.3 in
     ap (λ (t : Turn InstructionPlace Abs). runs i t (operand_fields o ++ rest)) opened
-      ∙ runs_append i (Stay (InOperand op before AtTag)) (operand_fields o) rest
-      ∙ ap (λ (t : Turn InstructionPlace Abs). runs i t rest) read
-      ∙ run_rest symbols frame total more op (before ++ o ∷ []) os follow (All-tail P o os r) (tail os w)
-      ∙ ap (λ (os : List Operand). Whole (made op os)) (append_assoc before (o ∷ []) os)
+    ∙ runs_append i (Stay (InOperand op before AtTag)) (operand_fields o) rest
+    ∙ ap (λ (t : Turn InstructionPlace Abs). runs i t rest) read
+    ∙ run_rest symbols frame total more op (before ++ o ∷ []) os follow (All-tail P o os r) (tail os w)
+    ∙ ap (λ (os : List Operand). Whole (made op os)) (append_assoc before (o ∷ []) os)
   where
     tail : (os : List Operand) → (writes_last op ≡ true → IsWritable (o ∷ os)) → writes_last op ≡ true → IsWritable os
     tail [] w e = tt
@@ -315,8 +316,8 @@ all_read : (op : Op) (symbols frame total : ℕ) (os : List Operand) → All (Is
 all_read op symbols frame total [] r w c = All-nil (Read op symbols frame total)
 all_read op symbols frame total (o ∷ os) r w c =
     All-cons (Read op symbols frame total) o os
-      (record { range = All-head (IsInRange frame total) o os r; symbol = All-head (λ o. IsWithin symbols (named_by_operand o)) o os w; counts = All-head (λ o. CountGood (is_constant_of op) o) o os c })
-      (all_read op symbols frame total os (All-tail (IsInRange frame total) o os r) (All-tail (λ o. IsWithin symbols (named_by_operand o)) o os w) (All-tail (λ o. CountGood (is_constant_of op) o) o os c))
+    (record { range = All-head (IsInRange frame total) o os r; symbol = All-head (λ o. IsWithin symbols (named_by_operand o)) o os w; counts = All-head (λ o. CountGood (is_constant_of op) o) o os c })
+    (all_read op symbols frame total os (All-tail (IsInRange frame total) o os r) (All-tail (λ o. IsWithin symbols (named_by_operand o)) o os w) (All-tail (λ o. CountGood (is_constant_of op) o) o os c))
 
 operation_opens : (more : Bool) (op : Op) → (more ≡ false → EndsFunction op) → operation_step more (Some op) ≡ with_operands op []
 operation_opens true op h = refl
@@ -324,15 +325,15 @@ operation_opens false op h = ap (λ (b : Bool). if b then with_operands op [] el
 
 -- An instruction in range is read.
 pub instruction_read :
-  (symbols frame total : ℕ) (more : Bool) (a : Abs) → IsInstruction frame total a → All (λ o. IsWithin symbols (named_by_operand o)) a.operands
-  → (more ≡ false → EndsFunction a.op) → runs (instruction symbols frame total more) (Stay AtOperation) (instruction_fields a) ≡ Whole a
+    (symbols frame total : ℕ) (more : Bool) (a : Abs) → IsInstruction frame total a → All (λ o. IsWithin symbols (named_by_operand o)) a.operands
+    → (more ≡ false → EndsFunction a.op) → runs (instruction symbols frame total more) (Stay AtOperation) (instruction_fields a) ≡ Whole a
 instruction_read symbols frame total more a g w e =
     let i : InstructionPlace → Field → Turn InstructionPlace Abs = instruction symbols frame total more in
     let fs : List Field = flat_map operand_fields a.operands in
     let counts = all_counts a.op a.operands (form_counts a.op (kinds a.operands) g.form) in
     ap (λ (x : Option Op). runs i (operation_step more x) fs) (op_read a.op)
-      ∙ ap (λ (t : Turn InstructionPlace Abs). runs i t fs) (operation_opens more a.op e)
-      ∙ run_rest symbols frame total more a.op [] a.operands (follows a.op (kinds a.operands) g.form) (all_read a.op symbols frame total a.operands g.operands w counts) g.destination
+    ∙ ap (λ (t : Turn InstructionPlace Abs). runs i t fs) (operation_opens more a.op e)
+    ∙ run_rest symbols frame total more a.op [] a.operands (follows a.op (kinds a.operands) g.form) (all_read a.op symbols frame total a.operands g.operands w counts) g.destination
 
 -- What is read
 
@@ -372,18 +373,21 @@ names op symbols frame total (o ∷ os) h =
 
 -- with these operands the instruction is whole, or it waits for another
 with_ok :
-  (symbols frame total : ℕ) (more : Bool) (p : InstructionPlace) (f : Field) (op : Op) (os : List Operand)
-  → Byte (op_number op) ∷ flat_map operand_fields os ≡ read_instruction p ++ f ∷ [] → OpenWell symbols frame total more op os
-  → (is_some (form_of op os) ≡ true → writes_last op ≡ true → IsWritable os) → InstructionOk symbols frame total more p f (with_operands op os)
+    (symbols frame total : ℕ) (more : Bool) (p : InstructionPlace) (f : Field) (op : Op) (os : List Operand)
+    → Byte (op_number op) ∷ flat_map operand_fields os ≡ read_instruction p ++ f ∷ [] → OpenWell symbols frame total more op os
+    → (is_some (form_of op os) ≡ true → writes_last op ≡ true → IsWritable os) → InstructionOk symbols frame total more p f (with_operands op os)
 with_ok symbols frame total more p f op os text w d =
     cond_both (is_some (form_of op os)) _ _ (InstructionOk symbols frame total more p f)
-      (λ e. (text, record {
+    (λ e. (
+      text,
+      record {
         instruction = record { form = e; operands = ranges op symbols frame total os w.each; destination = d e };
         symbols_named = names op symbols frame total os w.each;
         fits = w.fits;
         ends = w.ends;
-      }))
-      (λ e. (ap (λ (t : List Field). Byte (op_number op) ∷ t) (append-nil (flat_map operand_fields os)) ∙ text, (w, e, tt)))
+      },
+    ))
+    (λ e. (ap (λ (t : List Field). Byte (op_number op) ∷ t) (append-nil (flat_map operand_fields os)) ∙ text, (w, e, tt)))
 
 -- some operands begin a form of each operation
 begins : (op : Op) → Ends (kinds_form op) (may_follow op) []
@@ -431,10 +435,10 @@ operation_ok : (symbols frame total : ℕ) (more : Bool) (n : ℕ) (x : Option O
 operation_ok symbols frame total more n None h = tt
 operation_ok symbols frame total more n (Some op) h =
     cond_both (more || may_end op) _ _ (InstructionOk symbols frame total more AtOperation (Byte n))
-      (λ e.
-        let w : OpenWell symbols frame total more op [] = record { ends = ends_if more op e; each = All-nil (Read op symbols frame total); fits = All-nil OperandFits; leads = begins op } in
-        with_ok symbols frame total more AtOperation (Byte n) op [] (ap (λ (k : ℕ). Byte k ∷ []) (number_among all_operations n op h)) w (writable_none op))
-      (λ e. tt)
+    (λ e.
+    let w : OpenWell symbols frame total more op [] = record { ends = ends_if more op e; each = All-nil (Read op symbols frame total); fits = All-nil OperandFits; leads = begins op } in
+    with_ok symbols frame total more AtOperation (Byte n) op [] (ap (λ (k : ℕ). Byte k ∷ []) (number_among all_operations n op h)) w (writable_none op))
+    (λ e. tt)
 
 -- the last operand of a whole form isn't a register that lasts, where it is written
 last_good : (op : Op) (before : List Operand) (o : Operand) → is_some (form_of op (before ++ o ∷ [])) ≡ true → writes_last op ≡ true → WriteGood (λ r. writes_last op && is_some (form_of op (before ++ Reg r ∷ []))) o → LastGood o
@@ -453,9 +457,9 @@ goes_on op symbols frame total before o h c m =
     subst (λ (ks : List OperandKind). Ends (kinds_form op) (may_follow op) ks) (sym (kinds_push before o)) (goes op (kinds before) (operand_kind o) (head_counts op symbols frame total before o h c) m)
 
 behind_ok :
-  (symbols frame total : ℕ) (more : Bool) (op : Op) (before : List Operand) (p : OperandPlace) (f : Field) (t : Turn OperandPlace Operand)
-  → OpenWell symbols frame total more op before → is_some (form_of op before) ≡ false → OperandOk (around symbols frame total op before) p f t
-  → InstructionOk symbols frame total more (InOperand op before p) f (behind_operand op before t)
+    (symbols frame total : ℕ) (more : Bool) (op : Op) (before : List Operand) (p : OperandPlace) (f : Field) (t : Turn OperandPlace Operand)
+    → OpenWell symbols frame total more op before → is_some (form_of op before) ≡ false → OperandOk (around symbols frame total op before) p f t
+    → InstructionOk symbols frame total more (InOperand op before p) f (behind_operand op before t)
 behind_ok symbols frame total more op before p f Bad w n k = tt
 behind_ok symbols frame total more op before p f (Stay q) w n k =
     (ap (λ (t : List Field). Byte (op_number op) ∷ flat_map operand_fields before ++ t) k.0 ∙ ap (λ (t : List Field). Byte (op_number op) ∷ t) (sym (append_assoc (flat_map operand_fields before) (read_operand p) (f ∷ []))), (w, n, k.1))
@@ -463,7 +467,7 @@ behind_ok symbols frame total more op before p f (Whole o) w n k =
     let P : Operand → Type 0 = Read op symbols frame total in
     let g = k.1 in
     let text : Byte (op_number op) ∷ flat_map operand_fields (before ++ o ∷ []) ≡ read_instruction (InOperand op before p) ++ f ∷ [] =
-        ap (λ (t : List Field). Byte (op_number op) ∷ t) (flat_push operand_fields before o ∙ ap (λ (t : List Field). flat_map operand_fields before ++ t) k.0 ∙ sym (append_assoc (flat_map operand_fields before) (read_operand p) (f ∷ []))) in
+    ap (λ (t : List Field). Byte (op_number op) ∷ t) (flat_push operand_fields before o ∙ ap (λ (t : List Field). flat_map operand_fields before ++ t) k.0 ∙ sym (append_assoc (flat_map operand_fields before) (read_operand p) (f ∷ []))) in
     let well : OpenWell symbols frame total more op (before ++ o ∷ []) = record {
       ends = w.ends;
       each = all_push P before o w.each (record { range = g.range; symbol = g.symbol; counts = g.counts });

@@ -8,3 +8,4 @@ mod Ahead
 mod Objects
 mod Widths
 mod Fitting
+pub mod Reading

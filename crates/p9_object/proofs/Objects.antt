@@ -39,6 +39,7 @@ unnamed_apart local name t s l n h same e = by (bytes_eq t.name name) refl (byte
   where
     bound : same_binding t.local local ≡ true
     bound = same_back t.local local (same ∙ l)
+
     by : (b : Bool) → bytes_eq t.name name ≡ b → Decides b (t.name ≡ name) → ⊥
     by true f d = true≢false (sym (ap (λ (x : Bool). x && bytes_eq t.name name) bound ∙ f) ∙ h)
     by false f d = grind (arith, d, e ∙ n)
@@ -151,18 +152,17 @@ symbols_ok count before p f (Whole s) w k =
     let symbols : List Symbol = before ++ s ∷ [] in
     let text : flat_map symbol_fields symbols ≡ flat_map symbol_fields before ++ symbol_fields s = flat_push symbol_fields before s in
     let read : Chars magic ∷ Word version ∷ Word count ∷ flat_map symbol_fields symbols ≡ read_of (InSymbols count before p) ++ f ∷ [] =
-        ap (λ (t : List Field). Chars magic ∷ Word version ∷ Word count ∷ t) text ∙ in_symbols count before (read_symbol p) (symbol_fields s) f k.0 in
+    ap (λ (t : List Field). Chars magic ∷ Word version ∷ Word count ∷ t) text ∙ in_symbols count before (read_symbol p) (symbol_fields s) f k.0 in
     cond_both (nat_lt (length before + 1) count) _ _ (StepOk (InSymbols count before p) f)
-      (λ e. (
-        ap (λ (t : List Field). Chars magic ∷ Word version ∷ Word count ∷ t) (append-nil (flat_map symbol_fields symbols)) ∙ read,
-        (record { room = omega (arith, ltb-true (length before + 1) count e, push_length before s); few = w.few; each = each; apart = apart }, tt),
-      ))
-      (λ e.
-        let long : count ≡ length symbols = omega (arith, ltb-false (length before + 1) count e, push_length before s, w.room) in
-        (
-          ap (λ (n : ℕ). Chars magic ∷ Word version ∷ Word n ∷ flat_map symbol_fields symbols) (sym long) ∙ read,
-          as_object symbols (omega (arith, long, w.few)) (subst (λ (n : ℕ). All (IsSymbol n) symbols) long each) apart,
-        ))
+    (λ e. (
+      ap (λ (t : List Field). Chars magic ∷ Word version ∷ Word count ∷ t) (append-nil (flat_map symbol_fields symbols)) ∙ read,
+      (record { room = omega (arith, ltb-true (length before + 1) count e, push_length before s); few = w.few; each = each; apart = apart }, tt),
+    ))
+    (λ e.
+    let long : count ≡ length symbols = omega (arith, ltb-false (length before + 1) count e, push_length before s, w.room) in (
+      ap (λ (n : ℕ). Chars magic ∷ Word version ∷ Word n ∷ flat_map symbol_fields symbols) (sym long) ∙ read,
+      as_object symbols (omega (arith, long, w.few)) (subst (λ (n : ℕ). All (IsSymbol n) symbols) long each) apart,
+    ))
 
 ok_ifs : (Q : Result State Break → Type 0) (b : Bool) (s : State) → Q (Err NoObject) → (b ≡ true → Q (Ok s)) → Q (ok_if b s)
 ok_ifs Q true s bad ok = ok refl
@@ -182,8 +182,8 @@ step_sound AtVersion (Word v) k w =
     cond_both (v == version) _ _ (StepOk AtVersion (Word v)) (λ e. (ap (λ (n : ℕ). Chars magic ∷ Word n ∷ []) (sym (eqb-true v version e)), tt)) (λ e. tt)
 step_sound AtCount (Word n) k w =
     cond_both (n == 0) _ _ (StepOk AtCount (Word n)) (λ e. (ap (λ (n : ℕ). Chars magic ∷ Word version ∷ Word n ∷ []) (sym (eqb-true n 0 e)), empty))
-      (λ e. ok_ifs (StepOk AtCount (Word n)) (nat_lt n (2 ^ 32)) (InSymbols n [] AtBinding) tt
-        (λ m. (refl, (record { room = some n e; few = ltb-true n (2 ^ 32) m; each = All-nil (IsSymbol n); apart = λ i j d lt within. absurd (omega arith) }, tt))))
+    (λ e. ok_ifs (StepOk AtCount (Word n)) (nat_lt n (2 ^ 32)) (InSymbols n [] AtBinding) tt
+    (λ m. (refl, (record { room = some n e; few = ltb-true n (2 ^ 32) m; each = All-nil (IsSymbol n); apart = λ i j d lt within. absurd (omega arith) }, tt))))
   where
     some : (n : ℕ) → (n == 0) ≡ false → 0 < n
     some zero e = absurd (true≢false e)
@@ -226,20 +226,20 @@ unseen_push before s [] u a = All-nil (λ t. All (λ x. is_named t.local t.name 
 unseen_push before s (t ∷ rest) u a =
     let P : List Symbol → Symbol → Type 0 = λ before t. All (λ x. is_named t.local t.name x ≡ false) before in
     All-cons (P (before ++ s ∷ [])) t rest
-      (all_push (λ x. is_named t.local t.name x ≡ false) before s (All-head (P before) t rest u) (apart_unnamed t.local t.name s t refl refl (All-head (AreApart s) t rest a)))
-      (unseen_push before s rest (All-tail (P before) t rest u) (All-tail (AreApart s) t rest a))
+    (all_push (λ x. is_named t.local t.name x ≡ false) before s (All-head (P before) t rest u) (apart_unnamed t.local t.name s t refl refl (All-head (AreApart s) t rest a)))
+    (unseen_push before s rest (All-tail (P before) t rest u) (All-tail (AreApart s) t rest a))
 
 symbols_read :
-  (count : ℕ) (before : List Symbol) (s : Symbol) (rest : List Symbol) → count ≡ length before + length (s ∷ rest) → All (IsSymbol count) (s ∷ rest)
-  → Unseen before (s ∷ rest) → AllPairs AreApart (s ∷ rest)
-  → steps (Ok (InSymbols count before AtBinding)) (flat_map symbol_fields (s ∷ rest)) ≡ Ok (Done (before ++ s ∷ rest))
+    (count : ℕ) (before : List Symbol) (s : Symbol) (rest : List Symbol) → count ≡ length before + length (s ∷ rest) → All (IsSymbol count) (s ∷ rest)
+    → Unseen before (s ∷ rest) → AllPairs AreApart (s ∷ rest)
+    → steps (Ok (InSymbols count before AtBinding)) (flat_map symbol_fields (s ∷ rest)) ≡ Ok (Done (before ++ s ∷ rest))
 symbols_read count before s [] e g u a =
     let P : Symbol → Type 0 = λ t. All (λ x. is_named t.local t.name x ≡ false) before in
     let last : nat_lt (length before + 1) count ≡ false = le-ltb (length before + 1) count (omega (arith, e)) in
     let read = symbol_read count before s (All-head (IsSymbol count) s [] g) (list_any_none (is_named s.local s.name) before (All-head P s [] u)) in
     ap (λ (x : List Field). steps (Ok (InSymbols count before AtBinding)) x) (append-nil (symbol_fields s))
-      ∙ lift_symbol count before (Stay AtBinding) (symbol_fields s) s read
-      ∙ rw last refl
+    ∙ lift_symbol count before (Stay AtBinding) (symbol_fields s) s read
+    ∙ rw last refl
 symbols_read count before s (t ∷ rest) e g u a =
     let P : Symbol → Type 0 = λ t. All (λ x. is_named t.local t.name x ≡ false) before in
     let more : nat_lt (length before + 1) count ≡ true = lt-ltb (length before + 1) count (omega (arith, e)) in
@@ -247,10 +247,10 @@ symbols_read count before s (t ∷ rest) e g u a =
     let read = symbol_read count before s (All-head (IsSymbol count) s (t ∷ rest) g) (list_any_none (is_named s.local s.name) before (All-head P s (t ∷ rest) u)) in
     let turn : behind_symbol count before (Whole s) ≡ Ok (InSymbols count (before ++ s ∷ []) AtBinding) = rw more refl in
     steps_append (Ok (InSymbols count before AtBinding)) (symbol_fields s) fs
-      ∙ ap (λ (r : Result State Break). steps r fs) (lift_symbol count before (Stay AtBinding) (symbol_fields s) s read ∙ turn)
-      ∙ symbols_read count (before ++ s ∷ []) t rest (omega (arith, e, push_length before s)) (All-tail (IsSymbol count) s (t ∷ rest) g)
-          (unseen_push before s (t ∷ rest) (All-tail P s (t ∷ rest) u) (pairs_head s (t ∷ rest) a)) (pairs_tail s (t ∷ rest) a)
-      ∙ ap (λ (x : List Symbol). Ok (Done x)) (append_assoc before (s ∷ []) (t ∷ rest))
+    ∙ ap (λ (r : Result State Break). steps r fs) (lift_symbol count before (Stay AtBinding) (symbol_fields s) s read ∙ turn)
+    ∙ symbols_read count (before ++ s ∷ []) t rest (omega (arith, e, push_length before s)) (All-tail (IsSymbol count) s (t ∷ rest) g)
+    (unseen_push before s (t ∷ rest) (All-tail P s (t ∷ rest) u) (pairs_head s (t ∷ rest) a)) (pairs_tail s (t ∷ rest) a)
+    ∙ ap (λ (x : List Symbol). Ok (Done x)) (append_assoc before (s ∷ []) (t ∷ rest))
 
 pub forward : (xs : List Symbol) → IsObject (record { symbols = xs }) → steps (Ok AtMagic) (fields_of xs) ≡ Ok (Done xs)
 forward [] o = refl
@@ -332,9 +332,9 @@ begins s w n =
 pub goes_over : (fs : List Field) (s : State) (f : Field) → steps (Ok AtMagic) fs ≡ Ok s → (b : Begins (fs ++ f ∷ [])) → steps (step s f) b.rest ≡ Ok (Done b.«module».symbols)
 goes_over fs s f e b =
     sym (steps_append (Ok AtMagic) (fs ++ f ∷ []) b.rest
-      ∙ ap (λ (r : Result State Break). steps r b.rest) (steps_append (Ok AtMagic) fs (f ∷ []) ∙ ap (λ (r : Result State Break). steps r (f ∷ [])) e ∙ steps_none (step s f)))
-      ∙ ap (λ (x : List Field). steps (Ok AtMagic) x) (sym b.goes_on)
-      ∙ forward b.«module».symbols b.object
+    ∙ ap (λ (r : Result State Break). steps r b.rest) (steps_append (Ok AtMagic) fs (f ∷ []) ∙ ap (λ (r : Result State Break). steps r (f ∷ [])) e ∙ steps_none (step s f)))
+    ∙ ap (λ (x : List Field). steps (Ok AtMagic) x) (sym b.goes_on)
+    ∙ forward b.«module».symbols b.object
 
 pub refused : (fs : List Field) (s : State) (f : Field) (b : Break) → steps (Ok AtMagic) fs ≡ Ok s → step s f ≡ Err b → Begins (fs ++ f ∷ []) → ⊥
 refused fs s f b e r g = clash (ap (λ (x : Result State Break). steps x g.rest) (sym r) ∙ goes_over fs s f e g)

@@ -70,8 +70,8 @@ own r h =
 pub own_back : (r : ℕ) → IsRegister r → is_own_register r ≡ true
 own_back r h =
     and_from (nat_lt r 32) (not (r == 26) && (not (r == 27) && not (r == 28))) (lt-ltb r 32 h.0)
-      (and_from (not (r == 26)) (not (r == 27) && not (r == 28)) (apart_back r 26 h.1)
-        (and_from (not (r == 27)) (not (r == 28)) (apart_back r 27 h.2) (apart_back r 28 h.3)))
+    (and_from (not (r == 26)) (not (r == 27) && not (r == 28)) (apart_back r 26 h.1)
+    (and_from (not (r == 27)) (not (r == 28)) (apart_back r 27 h.2) (apart_back r 28 h.3)))
 
 not_true : (b : Bool) → not b ≡ true → b ≡ false
 not_true true h = nothing h
@@ -164,39 +164,39 @@ pub operand_sound : (a : Around) (p : OperandPlace) (f : Field) → FieldFits f 
 operand_sound a AtTag (Byte n) k w = tag_sound a n
 operand_sound a AtRegister (Byte r) k w =
     wholes (OperandOk a AtRegister (Byte r)) (is_own_register r && not (a.is_written r && is_lasting_register r)) (Reg r) tt
-      (λ m.
-        let t = and_parts (is_own_register r) (not (a.is_written r && is_lasting_register r)) m in
-        (refl, record { may = w; counts = tt; range = own r t.0; symbol = tt; write = not_true (a.is_written r && is_lasting_register r) t.1 }, tt, tt))
+    (λ m.
+    let t = and_parts (is_own_register r) (not (a.is_written r && is_lasting_register r)) m in
+    (refl, record { may = w; counts = tt; range = own r t.0; symbol = tt; write = not_true (a.is_written r && is_lasting_register r) t.1 }, tt, tt))
 operand_sound a AtConstant (Word c) k w =
     wholes (OperandOk a AtConstant (Word c)) (a.may_be_constant c) (Const c) tt
-      (λ m. (refl, record { may = w; counts = m; range = tt; symbol = tt; write = tt }, k, tt))
+    (λ m. (refl, record { may = w; counts = m; range = tt; symbol = tt; write = tt }, k, tt))
 operand_sound a AtAddressSymbol (Word s) k w =
     stays (OperandOk a AtAddressSymbol (Word s)) (nat_lt s a.symbols) (AtAddressOffset s) tt (λ m. (refl, (w, ltb-true s a.symbols m)))
 operand_sound a (AtAddressOffset s) (Word o) k w = (refl, record { may = w.0; counts = tt; range = tt; symbol = w.1; write = tt }, k, tt)
 operand_sound a AtArgumentAddress (Word o) k w =
     wholes (OperandOk a AtArgumentAddress (Word o)) (nat_le o 65535) (AddrFP o) tt
-      (λ m. (refl, record { may = w; counts = tt; range = leb-true o 65535 m; symbol = tt; write = tt }, tt, tt))
+    (λ m. (refl, record { may = w; counts = tt; range = leb-true o 65535 m; symbol = tt; write = tt }, tt, tt))
 operand_sound a AtFrameAddress (Word o) k w =
     wholes (OperandOk a AtFrameAddress (Word o)) (is_in_frame a.frame o) (AddrSP o) tt
-      (λ m. (refl, record { may = w.0; counts = tt; range = in_frame a.frame o m; symbol = tt; write = tt }, tt, tt))
+    (λ m. (refl, record { may = w.0; counts = tt; range = in_frame a.frame o m; symbol = tt; write = tt }, tt, tt))
 operand_sound a AtSymbol (Word s) k w =
     stays (OperandOk a AtSymbol (Word s)) (nat_lt s a.symbols) (AtOffset s) tt (λ m. (refl, (w, ltb-true s a.symbols m)))
 operand_sound a (AtOffset s) (Word o) k w = (refl, record { may = w.0; counts = tt; range = tt; symbol = w.1; write = tt }, k, tt)
 operand_sound a AtArgument (Word o) k w =
     wholes (OperandOk a AtArgument (Word o)) (nat_le o 65535) (MemFP o) tt
-      (λ m. (refl, record { may = w; counts = tt; range = leb-true o 65535 m; symbol = tt; write = tt }, tt, tt))
+    (λ m. (refl, record { may = w; counts = tt; range = leb-true o 65535 m; symbol = tt; write = tt }, tt, tt))
 operand_sound a AtFrameOffset (Word o) k w =
     wholes (OperandOk a AtFrameOffset (Word o)) (is_in_frame a.frame o) (MemSP o) tt
-      (λ m. (refl, record { may = w.0; counts = tt; range = in_frame a.frame o m; symbol = tt; write = tt }, tt, tt))
+    (λ m. (refl, record { may = w.0; counts = tt; range = in_frame a.frame o m; symbol = tt; write = tt }, tt, tt))
 operand_sound a AtBase (Byte r) k w =
     stays (OperandOk a AtBase (Byte r)) (is_own_register r) (AtBaseOffset r) tt (λ m. (refl, (w, own r m)))
 operand_sound a (AtBaseOffset r) (Word o) k w = (refl, record { may = w.0; counts = tt; range = w.1; symbol = tt; write = tt }, k, tt)
 operand_sound a AtLabel (Word l) k w =
     wholes (OperandOk a AtLabel (Word l)) (nat_lt l a.total) (Label l) tt
-      (λ m. (refl, record { may = w; counts = tt; range = ltb-true l a.total m; symbol = tt; write = tt }, tt, tt))
+    (λ m. (refl, record { may = w; counts = tt; range = ltb-true l a.total m; symbol = tt; write = tt }, tt, tt))
 operand_sound a AtFunction (Word s) k w =
     wholes (OperandOk a AtFunction (Word s)) (nat_lt s a.symbols) (Func s) tt
-      (λ m. (refl, record { may = w; counts = tt; range = tt; symbol = ltb-true s a.symbols m; write = tt }, tt, tt))
+    (λ m. (refl, record { may = w; counts = tt; range = tt; symbol = ltb-true s a.symbols m; write = tt }, tt, tt))
 operand_sound a _ _ k w = tt
 
 -- Each operand that is in range is read.
@@ -210,25 +210,25 @@ ends a b o h = ap (λ (t : Turn OperandPlace Operand). runs (operand_step a) t [
 register_ends : (a : Around) (r : ℕ) → IsRegister r → (a.is_written r && is_lasting_register r) ≡ false → runs (operand_step a) (Stay AtRegister) (Byte r ∷ []) ≡ Whole (Reg r)
 register_ends a r h w =
     ends a (is_own_register r && not (a.is_written r && is_lasting_register r)) (Reg r)
-      (and_from (is_own_register r) (not (a.is_written r && is_lasting_register r)) (own_back r h) (ap (λ (b : Bool). not b) w))
+    (and_from (is_own_register r) (not (a.is_written r && is_lasting_register r)) (own_back r h) (ap (λ (b : Bool). not b) w))
 
 pub operand_read : (a : Around) (o : Operand) → IsGood a o → IsPlaced o → runs (operand_step a) (Stay AtTag) (operand_fields o) ≡ Whole o
 operand_read a (Reg r) g k = passes a (a.may RegisterSort) AtRegister (Byte r ∷ []) g.may ∙ register_ends a r g.range g.write
 operand_read a (Const c) g k = passes a (a.may ConstantSort) AtConstant (Word c ∷ []) g.may ∙ ends a (a.may_be_constant c) (Const c) g.counts
 operand_read a (AddrSB s o) g k =
     passes a (a.may AddressSort) AtAddressSymbol (Word s ∷ Word o ∷ []) g.may
-      ∙ passes a (nat_lt s a.symbols) (AtAddressOffset s) (Word o ∷ []) (lt-ltb s a.symbols g.symbol)
+    ∙ passes a (nat_lt s a.symbols) (AtAddressOffset s) (Word o ∷ []) (lt-ltb s a.symbols g.symbol)
 operand_read a (AddrFP o) g k = passes a (a.may AddressSort) AtArgumentAddress (Word o ∷ []) g.may ∙ ends a (nat_le o 65535) (AddrFP o) (le-leb o 65535 g.range)
 operand_read a (AddrSP o) g k =
     passes a (a.may AddressSort && nat_lt 0 a.frame) AtFrameAddress (Word o ∷ []) (and_from (a.may AddressSort) (nat_lt 0 a.frame) g.may (lt-ltb 0 a.frame (omega (arith, g.range.0, g.range.1))))
-      ∙ ends a (is_in_frame a.frame o) (AddrSP o) (in_frame_back a.frame o g.range.0 g.range.1)
+    ∙ ends a (is_in_frame a.frame o) (AddrSP o) (in_frame_back a.frame o g.range.0 g.range.1)
 operand_read a (MemSB s o) g k =
     passes a (a.may MemorySort) AtSymbol (Word s ∷ Word o ∷ []) g.may
-      ∙ passes a (nat_lt s a.symbols) (AtOffset s) (Word o ∷ []) (lt-ltb s a.symbols g.symbol)
+    ∙ passes a (nat_lt s a.symbols) (AtOffset s) (Word o ∷ []) (lt-ltb s a.symbols g.symbol)
 operand_read a (MemFP o) g k = passes a (a.may MemorySort) AtArgument (Word o ∷ []) g.may ∙ ends a (nat_le o 65535) (MemFP o) (le-leb o 65535 g.range)
 operand_read a (MemSP o) g k =
     passes a (a.may MemorySort && nat_lt 0 a.frame) AtFrameOffset (Word o ∷ []) (and_from (a.may MemorySort) (nat_lt 0 a.frame) g.may (lt-ltb 0 a.frame (omega (arith, g.range.0, g.range.1))))
-      ∙ ends a (is_in_frame a.frame o) (MemSP o) (in_frame_back a.frame o g.range.0 g.range.1)
+    ∙ ends a (is_in_frame a.frame o) (MemSP o) (in_frame_back a.frame o g.range.0 g.range.1)
 operand_read a (MemReg r o) g k =
     passes a (a.may MemorySort) AtBase (Byte r ∷ Word o ∷ []) g.may ∙ passes a (is_own_register r) (AtBaseOffset r) (Word o ∷ []) (own_back r g.range)
 operand_read a (Label l) g k = passes a (a.may TargetSort) AtLabel (Word l ∷ []) g.may ∙ ends a (nat_lt l a.total) (Label l) (lt-ltb l a.total g.range)

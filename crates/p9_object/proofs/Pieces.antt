@@ -115,37 +115,41 @@ pub piece_sound : (symbols : ℕ) (before : List DataPiece) (behind : ℕ) (p : 
 piece_sound symbols before behind AtPiece (Byte n) k w =
     let Q : Turn PiecePlace DataPiece → Type 0 = PieceOk symbols before behind AtPiece (Byte n) in
     cond_both (n == 0) _ _ Q
-      (λ e. stays Q (not (ends_raw before)) AtRawLength tt (λ m. (byte_is n 0 e, (w, not_true (ends_raw before) m))))
-      (λ e. stays Q (n == 1) AtPieceSymbol tt (λ m. (byte_is n 1 m, w)))
+    (λ e. stays Q (not (ends_raw before)) AtRawLength tt (λ m. (byte_is n 0 e, (w, not_true (ends_raw before) m))))
+    (λ e. stays Q (n == 1) AtPieceSymbol tt (λ m. (byte_is n 1 m, w)))
 piece_sound symbols before behind AtRawLength (Word n) k w =
     stays (PieceOk symbols before behind AtRawLength (Word n)) (raw_fits (pieces_size before) n behind) (AtRaw n) tt (λ m. (refl, (w.0, w.1, raw_room (pieces_size before) n behind m)))
 piece_sound symbols before behind (AtRaw n) (Chars bytes) k w =
     wholes (PieceOk symbols before behind (AtRaw n) (Chars bytes)) (length bytes == n) (Raw bytes) tt
-      (λ m.
-        let e : length bytes ≡ n = eqb-true (length bytes) n m in
-        (ap (λ (k : ℕ). Byte 0 ∷ Word k ∷ Chars bytes ∷ []) e, record {
-          filled = omega (arith, e, w.2.0);
-          parted = λ r. w.1;
-          start = w.0.0;
-          symbol = tt;
-          fits = k;
-          room = omega (arith, e, w.2.1);
-          aligned = λ b. omega (arith, e, w.0.0, multiple behind n w.2.2 b);
-          some = omega (arith, e, w.2.0);
-        }))
+    (λ m.
+    let e : length bytes ≡ n = eqb-true (length bytes) n m in (
+      ap (λ (k : ℕ). Byte 0 ∷ Word k ∷ Chars bytes ∷ []) e,
+      record {
+        filled = omega (arith, e, w.2.0);
+        parted = λ r. w.1;
+        start = w.0.0;
+        symbol = tt;
+        fits = k;
+        room = omega (arith, e, w.2.1);
+        aligned = λ b. omega (arith, e, w.0.0, multiple behind n w.2.2 b);
+        some = omega (arith, e, w.2.0);
+      },
+    ))
 piece_sound symbols before behind AtPieceSymbol (Word x) k w =
     stays (PieceOk symbols before behind AtPieceSymbol (Word x)) (nat_lt x symbols) (AtPieceOffset x) tt (λ m. (refl, (w, ltb-true x symbols m)))
-piece_sound symbols before behind (AtPieceOffset x) (Word o) k w =
-    (refl, record {
-      filled = tt;
-      parted = λ r. nothing r;
-      start = w.0.0;
-      symbol = w.1;
-      fits = k;
-      room = omega (arith, w.0.1);
-      aligned = λ b. omega (arith, w.0.0);
-      some = omega arith;
-    })
+piece_sound symbols before behind (AtPieceOffset x) (Word o) k w = (
+  refl,
+  record {
+    filled = tt;
+    parted = λ r. nothing r;
+    start = w.0.0;
+    symbol = w.1;
+    fits = k;
+    room = omega (arith, w.0.1);
+    aligned = λ b. omega (arith, w.0.0);
+    some = omega arith;
+  },
+)
 piece_sound symbols before behind _ _ k w = tt
 
 -- Each piece that finds room is read.
@@ -160,13 +164,13 @@ CanCome symbols before behind (Address s o) = s < symbols
 fits_back : (size n behind : ℕ) → RawRoom size n behind → raw_fits size n behind ≡ true
 fits_back size n behind h =
     and_from (nat_lt 0 n) (nat_le (size + n + 4 * behind) size_limit && ((behind == 0) || (n % 4 == 0))) (lt-ltb 0 n h.0)
-      (and_from (nat_le (size + n + 4 * behind) size_limit) ((behind == 0) || (n % 4 == 0)) (le-leb (size + n + 4 * behind) size_limit h.1) h.2)
+    (and_from (nat_le (size + n + 4 * behind) size_limit) ((behind == 0) || (n % 4 == 0)) (le-leb (size + n + 4 * behind) size_limit h.1) h.2)
 
 pub piece_read : (symbols : ℕ) (before : List DataPiece) (behind : ℕ) (p : DataPiece) → CanCome symbols before behind p → runs (piece_step symbols before behind) (Stay AtPiece) (piece_fields p) ≡ Whole p
 piece_read symbols before behind (Raw bytes) h =
     passes symbols before behind (not (ends_raw before)) AtRawLength (Word (length bytes) ∷ Chars bytes ∷ []) (ap (λ (b : Bool). not b) h.0)
-      ∙ passes symbols before behind (raw_fits (pieces_size before) (length bytes) behind) (AtRaw (length bytes)) (Chars bytes ∷ []) (fits_back (pieces_size before) (length bytes) behind h.1)
-      ∙ ap (λ (t : Turn PiecePlace DataPiece). runs (piece_step symbols before behind) t []) (whole_on (length bytes == length bytes) (Raw bytes) (eq-eqb (length bytes) (length bytes) refl))
+    ∙ passes symbols before behind (raw_fits (pieces_size before) (length bytes) behind) (AtRaw (length bytes)) (Chars bytes ∷ []) (fits_back (pieces_size before) (length bytes) behind h.1)
+    ∙ ap (λ (t : Turn PiecePlace DataPiece). runs (piece_step symbols before behind) t []) (whole_on (length bytes == length bytes) (Raw bytes) (eq-eqb (length bytes) (length bytes) refl))
 piece_read symbols before behind (Address x o) h = passes symbols before behind (nat_lt x symbols) (AtPieceOffset x) (Word o ∷ []) (lt-ltb x symbols h)
 
 -- The pieces of valid data find room

@@ -202,8 +202,8 @@ there true form h = refl
 there false form h = nothing h
 
 shifted_goes :
-  (k : Calculation) (before : List OperandKind) (x : OperandKind) → HeadCounts (λ c. nat_lt c 32) (before ++ x ∷ [])
-  → next_of_arithmetic (sorts before) (sort_of x) ≡ true → Ends (shift k) next_of_arithmetic (before ++ x ∷ [])
+    (k : Calculation) (before : List OperandKind) (x : OperandKind) → HeadCounts (λ c. nat_lt c 32) (before ++ x ∷ [])
+    → next_of_arithmetic (sorts before) (sort_of x) ≡ true → Ends (shift k) next_of_arithmetic (before ++ x ∷ [])
 shifted_goes k ([]) (Register a) c h = (ARegister ∷ ARegister ∷ [], (refl, refl, refl, (refl, refl, refl, refl)))
 shifted_goes k ([]) (Constant a) c h = (ARegister ∷ ARegister ∷ [], (refl, refl, refl, (refl, refl, there _ _ c, there _ _ c)))
 shifted_goes k (Register a ∷ []) (Register b) c h = (ARegister ∷ [], (refl, refl, refl, refl))
@@ -247,8 +247,8 @@ none_goes : (form : Form) → Goes (bare form) next_of_none
 none_goes form before k h = nothing h
 
 pub goes :
-  (op : Op) (before : List OperandKind) (k : OperandKind) → HeadCounts (is_constant_of op) (before ++ k ∷ [])
-  → may_follow op (sorts before) (sort_of k) ≡ true → Ends (kinds_form op) (may_follow op) (before ++ k ∷ [])
+    (op : Op) (before : List OperandKind) (k : OperandKind) → HeadCounts (is_constant_of op) (before ++ k ∷ [])
+    → may_follow op (sorts before) (sort_of k) ≡ true → Ends (kinds_form op) (may_follow op) (before ++ k ∷ [])
 goes MovW before k c h = move_goes before k h
 goes MovH before k c h = signed_goes _ before k h
 goes MovHU before k c h = unsigned_goes _ before k h

@@ -84,17 +84,17 @@ size_of field = length (field_bytes field)
 pub data Breaks (bytes : List ℕ) (at : ℕ) : Type 0 where
   -- a field with which no object goes on, whose first byte it is; it is as long as any that goes on there
   AtField :
-    (before : List Field) (field : Field) (rest : List ℕ) → bytes ≡ bytes_of before ++ (field_bytes field ++ rest)
-    → at ≡ length (bytes_of before) → Leads before → (Begins (before ++ field ∷ []) → ⊥)
-    → ((other : Field) → Begins (before ++ other ∷ []) → size_of other ≡ size_of field) → Breaks bytes at
+      (before : List Field) (field : Field) (rest : List ℕ) → bytes ≡ bytes_of before ++ (field_bytes field ++ rest)
+      → at ≡ length (bytes_of before) → Leads before → (Begins (before ++ field ∷ []) → ⊥)
+      → ((other : Field) → Begins (before ++ other ∷ []) → size_of other ≡ size_of field) → Breaks bytes at
   -- the bytes end behind fields with which an object begins, or inside the next field
   AtEnd :
-    (before : List Field) (pending : List ℕ) → bytes ≡ bytes_of before ++ pending → at ≡ length bytes → Leads before
-    → ((other : Field) → Begins (before ++ other ∷ []) → length pending < size_of other) → Breaks bytes at
+      (before : List Field) (pending : List ℕ) → bytes ≡ bytes_of before ++ pending → at ≡ length bytes → Leads before
+      → ((other : Field) → Begins (before ++ other ∷ []) → length pending < size_of other) → Breaks bytes at
   -- bytes follow a whole object
   Behind :
-    (m : AModule) (next : ℕ) (rest : List ℕ) → IsObject m → bytes ≡ spelling m ++ next ∷ rest → at ≡ length (spelling m)
-    → Breaks bytes at
+      (m : AModule) (next : ℕ) (rest : List ℕ) → IsObject m → bytes ≡ spelling m ++ next ∷ rest → at ≡ length (spelling m)
+      → Breaks bytes at
 
 -- Laws
 

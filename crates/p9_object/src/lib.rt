@@ -5,4 +5,4 @@
 
 mod laws;
 
-pub use laws::probe;
+pub use laws::{faults_tell_the_first_break, objects_have_one_spelling};
