@@ -187,9 +187,10 @@ is_numbered s =
 numbered : (s : Symbol) → is_numbered s ≡ true → NamesWithin 8 s.body
 unfolding is_numbered
 numbered s h =
-    let p = and_parts (list_all (λ o. is_below 8 (named_by_operand o)) (operands_of s.body)) _ h in
-    (all_told (λ o. IsWithin 8 (named_by_operand o)) (λ o. is_below 8 (named_by_operand o)) (operands_of s.body) (λ o. below 8 (named_by_operand o)) p.0,
-    all_told (λ q. IsWithin 8 (named_by_piece q)) (λ q. is_below 8 (named_by_piece q)) (pieces_of s.body) (λ q. below 8 (named_by_piece q)) p.1)
+    let p = and_parts (list_all (λ o. is_below 8 (named_by_operand o)) (operands_of s.body)) _ h in (
+      all_told (λ o. IsWithin 8 (named_by_operand o)) (λ o. is_below 8 (named_by_operand o)) (operands_of s.body) (λ o. below 8 (named_by_operand o)) p.0,
+      all_told (λ q. IsWithin 8 (named_by_piece q)) (λ q. is_below 8 (named_by_piece q)) (pieces_of s.body) (λ q. below 8 (named_by_piece q)) p.1,
+    )
 
 -- Distinct names
 

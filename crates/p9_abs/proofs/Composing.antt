@@ -162,17 +162,29 @@ module _ (apart : ℕ → Bool) (a b c : Side) where
   one n on (Turns taken u) x y z f g =
       let h = f 0 in
       let after = second-after (Turns taken h.2) y h.1 z h.0 h.3 h.4 g in
-      let k = after 0 in
-      (k.0, k.1, k.2, k.3, k.4, (λ back. h.5 (k.5 back)),
-      on u h.2 k.2 (first-turns taken u x y h.1 h.2 h.0 h.3 h.4 f) (second-turns taken h.2 h.1 z k.1 k.2 k.0 k.3 k.4 after))
+      let k = after 0 in (
+        k.0,
+        k.1,
+        k.2,
+        k.3,
+        k.4,
+        (λ back. h.5 (k.5 back)),
+        on u h.2 k.2 (first-turns taken u x y h.1 h.2 h.0 h.3 h.4 f) (second-turns taken h.2 h.1 z k.1 k.2 k.0 k.3 k.4 after),
+      )
   one n on (Calls to u) x y z f g =
       let h = f 0 in
       let after = second-after (Calls to h.2) y h.1 z h.0 h.3 h.4 g in
-      let k = after 0 in
-      (k.0, k.1, k.2, k.3, k.4, meet-through apart u h.2 k.2 h.5 k.5,
-      (λ v w ans. on v (between h.2 v) w
-      (first-calls to u x y h.1 h.2 h.0 h.3 h.4 f v (between h.2 v) (answers-first apart u h.2 k.2 v w ans))
-      (second-calls to h.2 h.1 z k.1 k.2 k.0 k.3 k.4 after (between h.2 v) w (answers-second apart u h.2 k.2 v w h.5 ans))))
+      let k = after 0 in (
+        k.0,
+        k.1,
+        k.2,
+        k.3,
+        k.4,
+        meet-through apart u h.2 k.2 h.5 k.5,
+        (λ v w ans. on v (between h.2 v) w
+            (first-calls to u x y h.1 h.2 h.0 h.3 h.4 f v (between h.2 v) (answers-first apart u h.2 k.2 v w ans))
+            (second-calls to h.2 h.1 z k.1 k.2 k.0 k.3 k.4 after (between h.2 v) w (answers-second apart u h.2 k.2 v w h.5 ans))),
+      )
   one n on (Returns u) x y z f g =
       let h = f 0 in
       let k = second-after (Returns h.2) y h.1 z h.0 h.3 h.4 g 0 in

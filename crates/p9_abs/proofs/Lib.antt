@@ -6,3 +6,4 @@ pub mod LiveExample
 pub mod Walking
 pub mod StepLaws
 pub mod Fixed
+pub mod Choosing

@@ -96,11 +96,14 @@ joined i j (inr e) (inl f) =
     subst (λ a. AreJoined (at_depth 0) 0 a j) (sym e) (subst (λ b. AreJoined (at_depth 0) 0 2 b) (sym f) (1 ∷ [], (inr one-leads, refl)))
 
 pub region_of : RegionOfStoreAndRead
-region_of = (refl, record {
-  candidate = refl;
-  some = omega arith;
-  rising = AllPairs-cons (λ i j. i < j) 1 (2 ∷ []) (All-from_recursion (λ j. 1 < j) (2 ∷ []) (omega arith, tt)) (AllPairs-cons (λ i j. i < j) 2 [] (λ k d l. absurd (omega arith)) (λ i j d l m. absurd (omega arith)));
-  points = All-from_recursion (IsPoint (at_depth 0) 0) (1 ∷ 2 ∷ []) (inr refl, (inl live-2, tt));
-  joined = λ i j a b. joined i j (is-one i a) (is-one j b);
-  whole = λ i j a w. has-it j (joined-is i j w.0 (is-one i a) w.1);
-})
+region_of = (
+  refl,
+  record {
+    candidate = refl;
+    some = omega arith;
+    rising = AllPairs-cons (λ i j. i < j) 1 (2 ∷ []) (All-from_recursion (λ j. 1 < j) (2 ∷ []) (omega arith, tt)) (AllPairs-cons (λ i j. i < j) 2 [] (λ k d l. absurd (omega arith)) (λ i j d l m. absurd (omega arith)));
+    points = All-from_recursion (IsPoint (at_depth 0) 0) (1 ∷ 2 ∷ []) (inr refl, (inl live-2, tt));
+    joined = λ i j a b. joined i j (is-one i a) (is-one j b);
+    whole = λ i j a w. has-it j (joined-is i j w.0 (is-one i a) w.1);
+  },
+)

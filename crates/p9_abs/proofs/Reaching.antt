@@ -36,6 +36,7 @@ within-top p q m top below k h = at (cases k m h)
   where
     cases : (a b : ℕ) → a < suc b → (a < b) ⊎ (a ≡ b)
     cases a b l = grind (arith)
+
     at : (k < m) ⊎ (k ≡ m) → p k ≡ true → q k ≡ true
     at (inl l) e = below k l e
     at (inr r) e = subst (λ i. q i ≡ true) (sym r) (top (subst (λ i. p i ≡ true) r e))
@@ -63,8 +64,10 @@ same-or-more p q (suc m) grows = at (p m) (q m) refl refl (same-or-more p q m gr
   where
     least : count p m ≤ count q m
     least = count-grows p q m grows
+
     top : number (p m) ≤ number (q m)
     top = number-grows (p m) (q m) (grows m)
+
     at : (a b : Bool) → p m ≡ a → q m ≡ b → Within q p m ⊎ (count p m < count q m) → Within q p (suc m) ⊎ (number (p m) + count p m < number (q m) + count q m)
     at a b e f (inr more) = let g = top in inr (omega arith)
     at true b e f (inl same) = inl (within-top q p m (λ x. e) same)
@@ -83,6 +86,7 @@ flows-from code p (suc m) i j l e h = at (λ g. flows-from code p m i j g e h) (
   where
     cases : (a b : ℕ) → a < suc b → (a < b) ⊎ (a ≡ b)
     cases a b g = grind (arith)
+
     at : (i < m → flows_from code p m j ≡ true) → (i < m) ⊎ (i ≡ m) → (p m && flows code m j || flows_from code p m j) ≡ true
     at below (inl g) = or_right (p m && flows code m j) (flows_from code p m j) (below g)
     at below (inr g) =
@@ -214,7 +218,8 @@ reached-along code i k (j ∷ way) h e = reached-along code j k way (reached-flo
 pub reached_by_ways : ReachedByWays
 unfolding reached
 reached_by_ways code i = (
-    λ h. let l = reached-within (length code) code i h in
-    let w = has-way (length code) code i h in
-    (omega arith, w.0, w.1),
-    λ h. reached-along code 0 i h.1 (reached-first code h.0) h.2)
+  λ h. let l = reached-within (length code) code i h in
+      let w = has-way (length code) code i h in
+      (omega arith, w.0, w.1),
+  λ h. reached-along code 0 i h.1 (reached-first code h.0) h.2,
+)

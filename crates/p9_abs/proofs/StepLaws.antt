@@ -51,7 +51,6 @@ ended-by P (Halted cause pc) y h = tt
 
 -- Memory
 
-
 abbrev Kept : Mach → Step → Type 0
 Kept x s = IfMach (λ y. KeepsText x.state.core y.state.core) s
 

@@ -201,8 +201,10 @@ module _ (around : Around) (form : Form) (x : Mach) (G : Step → Type 0) (walk 
       choose ((a == 0) || ((b == 2 ^ 31) && (a == 2 ^ 32 - 1))) Undefined (write_pair (signed_remainder b a) (signed_quotient b a) x)
       (λ e. walk.undefined)
       (λ e. walk.pair (signed_remainder b a) (signed_quotient b a)
-      (λ w. (with_sign-word (is_negative b) (magnitude b % magnitude a) (rest-word (magnitude b) (magnitude a) (magnitude-word b (h w).1)),
-      with_sign-word (signs_differ b a) (magnitude b / magnitude a) (quotient-word (magnitude b) (magnitude a) (magnitude-word b (h w).1)))))
+      (λ w. (
+        with_sign-word (is_negative b) (magnitude b % magnitude a) (rest-word (magnitude b) (magnitude a) (magnitude-word b (h w).1)),
+        with_sign-word (signs_differ b a) (magnitude b / magnitude a) (quotient-word (magnitude b) (magnitude a) (magnitude-word b (h w).1)),
+      )))
   product DivU a b h =
       choose (a == 0) Undefined (write_pair (b % a) (b / a) x)
       (λ e. walk.undefined)

@@ -81,3 +81,13 @@ abbrev pub KeepsCompose : Type 0
 KeepsCompose =
     (apart : ℕ → Bool) (a b c : Side) (x y z : Mach) →
     ((n : ℕ) → Follows nowhere a b n x y) → ((n : ℕ) → Follows apart b c n y z) → (n : ℕ) → Follows apart a c n x z
+
+-- Programs
+
+-- the chosen definition is text or data, or where there is none the first common one; a name without
+-- one isn't defined
+abbrev pub ChosenIsChosen : Type 0
+ChosenIsChosen = (ms : List AModule) (name : List ℕ) (d : Def) → chosen ms name ≡ Some d → IsChosen ms name d
+
+abbrev pub NoneIsUndefined : Type 0
+NoneIsUndefined = (ms : List AModule) (name : List ℕ) → chosen ms name ≡ None → IsUndefined ms name

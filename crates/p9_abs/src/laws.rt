@@ -1,6 +1,6 @@
 // What holds of abstract code, as contracts of functions that do nothing.
 
-ghost use Rattle.p9_abs.specs.Laws.{MemoryStays, WordsStay, SilentSteps, StackStays, BannedStay, ReachedByWays, KeepsCompose};
+ghost use Rattle.p9_abs.specs.Laws.{MemoryStays, WordsStay, SilentSteps, StackStays, BannedStay, ReachedByWays, KeepsCompose, ChosenIsChosen, NoneIsUndefined};
 ghost use Rattle.p9_abs.specs.Examples.{KeptWordIsBanned, KeptWordIsFreedByReturn, OutsideIsUndefined, MisalignedIsUndefined, OverflowIsUndefined, DivisionIsUndefined, CallOfNoFunction, FloorIsUndefined, SystemStopIsUndefined, GapIsUndefined, LiveWhereRead, RegionOfStoreAndRead, CostByDepth};
 
 /// What each step leaves: memory's sizes and the bytes below the data; words and bytes; output and
@@ -17,6 +17,12 @@ pub fn step_laws()
 pub fn code_laws()
     ensures reached { ReachedByWays }
     ensures composed { KeepsCompose }
+{}
+
+/// Several modules: the definition that a name's uses stand for.
+pub fn program_laws()
+    ensures chosen { ChosenIsChosen }
+    ensures undefined { NoneIsUndefined }
 {}
 
 /// Small programs: each kind of undefined step, and what lies next to it and is defined.
