@@ -3,7 +3,7 @@ ghost use Rattle.p9_lang.specs.LayoutExamples.{Agreements, Layouts, WordOperatio
 ghost use Rattle.p9_lang.specs.Laws.{AgreementIsDecided, LayoutIsThatOfMembers, LayoutsStay};
 ghost use Rattle.p9_lang.specs.RefusedFiles.{Refusals};
 ghost use Rattle.p9_lang.specs.TypedFiles.{TypedFiles};
-ghost use Rattle.p9_lang.specs.TypingLaws.{EachNodeIsTyped};
+ghost use Rattle.p9_lang.specs.TypingLaws.{EachNodeIsTyped, SizesStay};
 
 /// Sizes and alignments of structures, unions and arrays; members by their names, and through
 /// unnamed substructures.
@@ -59,4 +59,10 @@ pub fn agreement_is_decided()
 #[tactic(auto, using(crate::proofs::Counting::each_node_is_typed))]
 pub fn each_node_is_typed()
     ensures { EachNodeIsTyped }
+{}
+
+/// A type that is complete where a node is typed has the same size behind the node.
+#[tactic(auto, using(crate::proofs::Counting::sizes_stay))]
+pub fn sizes_stay()
+    ensures { SizesStay }
 {}
