@@ -9,7 +9,7 @@ use Rattle.p9_lang.specs.declared.tree.EntryBy.{EntryBy}
 use Rattle.p9_lang.specs.Trees.{node, none, more, Syntax, SyntaxRow, nodes_of, nodes_of_row}
 use Rattle.p9_lang.specs.Types.{TypeTree, Void, Int, Array, TagTree, Meant, Nothing, Static, MemberTree, Tags}
 use Rattle.p9_lang.specs.Rules.{Rule, Malformed, Undeclared, Redeclared, at_node, Broken, unless, and_then, first_of}
-use Rattle.p9_lang.specs.Scopes.{Known, Declared, Keyword, TagName, Tagging, known_first, tag_from, known_tag, new_tag, tagged_as, complete_tag, with_node, next_node, close_level, close_block, in_levels, in_level, innermost, around, Enum}
+use Rattle.p9_lang.specs.Scopes.{Known, Declared, Keyword, TagName, Tagging, known_first, tag_from, known_tag, new_tag, new_structure, tagged_as, complete_tag, with_node, next_node, close_level, close_block, in_levels, in_level, innermost, around, Enum}
 use Rattle.p9_lang.specs.Declarators.{LengthBy, Step, Shape, Unsized, Sized, Points, Keeps, Head, Storage, NameNode, Words, Named, Structure, Enumeration, head_of, storage_of, closed, closed_from, shaped, broken_at, makes_no_type, with_length, adjusted, name_of, naming_rules, own_list, ByNothing, ByCaller, Declaring}
 use Rattle.p9_lang.specs.Parts.{Role, EntryOf, Context, Part, Value, Declarator, Object, Members, Enumerator, Parameter, NamedType, Braced, Filled, CaseLabel, Statement, DefaultLabel, Frame, Judged, file_context, kind_at, object_type, last_object, name_in, object_role, object_names, Plain, follows, length_by}
 use Rattle.p9_lang.specs.Constants.{Operand, Constant}
@@ -18,7 +18,9 @@ use Rattle.p9_lang.specs.Opening.{opened, context, of_head, of_structure}
 use Rattle.p9_lang.specs.Declaring.{broken_rules, behind, last_node, named_with, declare_object, declare_as, with_body_open, open_body, parameter_count, declare_member, declare_parameter, parameter_meaning, parameter_rules, declared_parameter, member_rules, names_in_braces, initialiser_role, declared_meaning, close_type, declared, function_declaring, object_declaring, enumerated, enumerator_value, constant_meaning, complete_if, with_length_given, with_given_length, length_rules, declared_before, unless_broken, initialiser_rules, given_length, retyped, initialised}
 use Rattle.p9_lang.specs.Entries.{is_index_next}
 use Rattle.p9_lang.specs.Files.{typed_file, typing_of, names_with_bodies}
-use Rattle.p9_lang.specs.TypingLaws.{EachNodeIsTyped}
+use Rattle.p9_lang.specs.TypingLaws.{EachNodeIsTyped, SizesStay}
+use Rattle.p9_lang.proofs.Growing.{Grows, stays, then_grows, appended_grows, body_grows}
+use Rattle.p9_lang.proofs.Layouts.{layouts_stay}
 use Rattle.p9_lang.specs.Typing.{has, typeless, stepped, step_at, judged_brackets, judged_name, judged_text, judged_decl_name, judged_enumerator, judged_entry, judged_as, judged_expression, judged, judge, judge_parts, judge_items, role_rules, with_rules, is_filled_by_text, is_block_static, is_whole, text_type, operands_of}
 
 -- what is known of as many nodes, and of one more
@@ -26,16 +28,19 @@ use Rattle.p9_lang.specs.Typing.{has, typeless, stepped, step_at, judged_bracket
 pub record SameNodes (s r : Known) : Type 0 where
   pub types : length r.types ≡ length s.types
   pub means : length r.means ≡ length s.means
+  pub grows : Grows s.tags r.tags
 
 pub record More (n : ℕ) (s r : Known) : Type 0 where
   pub types : length r.types ≡ length s.types + n
   pub means : length r.means ≡ length s.means + n
+  pub grows : Grows s.tags r.tags
 
 pub same : (s : Known) → SameNodes s s
-same s = record { types = refl; means = refl }
+same s = record { types = refl; means = refl; grows = stays s.tags }
 
 pub then_same : (s r q : Known) → SameNodes s r → SameNodes r q → SameNodes s q
-then_same s r q a b = record { types = b.types ∙ a.types; means = b.means ∙ a.means }
+then_same s r q a b =
+    record { types = b.types ∙ a.types; means = b.means ∙ a.means; grows = then_grows s.tags r.tags q.tags a.grows b.grows }
 
 -- results that are there
 
@@ -50,24 +55,24 @@ unless_of (b ∷ bs) x y e = cc
 zero_more : (n : ℕ) (s r q : Known) → More n s r → More 0 r q → More n s q
 zero_more n s r q a b =
     let a1 = a.types in let a2 = a.means in let b1 = b.types in let b2 = b.means in
-    record { types = omega arith; means = omega arith }
+    record { types = omega arith; means = omega arith; grows = then_grows s.tags r.tags q.tags a.grows b.grows }
 
 -- a part with what is known of so many nodes more
 abbrev pub Gives : (n : ℕ) → Known → Judged → Type 0
 Gives n s m = (r : Part × Known) → m ≡ Ok r → More n s r.1
 
 none_more : (s r : Known) → SameNodes s r → More 0 s r
-none_more s r h = let a = h.types in let b = h.means in record { types = omega arith; means = omega arith }
+none_more s r h = let a = h.types in let b = h.means in record { types = omega arith; means = omega arith; grows = h.grows }
 
 pub then_more : (m n : ℕ) (s r q : Known) → More m s r → More n r q → More (m + n) s q
 then_more m n s r q a b =
     let a1 = a.types in let a2 = a.means in let b1 = b.types in let b2 = b.means in
-    record { types = omega arith; means = omega arith }
+    record { types = omega arith; means = omega arith; grows = then_grows s.tags r.tags q.tags a.grows b.grows }
 
 pub after_same : (n : ℕ) (s r q : Known) → SameNodes s r → More n r q → More n s q
 after_same n s r q a b =
     let a1 = a.types in let a2 = a.means in let b1 = b.types in let b2 = b.means in
-    record { types = omega arith; means = omega arith }
+    record { types = omega arith; means = omega arith; grows = then_grows s.tags r.tags q.tags a.grows b.grows }
 
 pub err_gives : (n : ℕ) (s : Known) (b : Broken) → Gives n s (Err b)
 err_gives n s b r e = cc
@@ -89,7 +94,7 @@ one_more s q type means h =
     let b = length-append q.means (means ∷ []) in
     let c = h.types in
     let d = h.means in
-    record { types = a ∙ omega arith; means = b ∙ omega arith }
+    record { types = a ∙ omega arith; means = b ∙ omega arith; grows = h.grows }
 
 pub has_gives : (rules : List Rule) (type : TypeTree) (means : Meant) (part : Part) (s q : Known) → SameNodes s q
     → Gives 1 s (has rules type means part q)
@@ -117,12 +122,12 @@ name_gives x (Some d) s = has_gives _ d.type d.means _ s s (same s)
 text_gives : (type : TypeTree) (role : Role) (s : Known) → Gives 1 s (judged_text type role s)
 text_gives type role s =
     if_gives 1 s (is_filled_by_text role) _ _ (has_gives [] type Nothing _ s s (same s))
-    (has_gives _ type (Static s.statics) _ s (record s { statics = s.statics + 1 }) (record { types = refl; means = refl }))
+    (has_gives _ type (Static s.statics) _ s (record s { statics = s.statics + 1 }) (record { types = refl; means = refl; grows = stays s.tags }))
 
 decl_name_gives : (x : List ℕ) (role : Role) (s : Known) → Gives 1 s (judged_decl_name x role s)
 decl_name_gives x role s =
     if_gives 1 s (is_block_static role) _ _
-    (has_gives [] Void (Static s.statics) _ s (record s { statics = s.statics + 1 }) (record { types = refl; means = refl }))
+    (has_gives [] Void (Static s.statics) _ s (record s { statics = s.statics + 1 }) (record { types = refl; means = refl; grows = stays s.tags }))
     (typeless_gives [] _ s s (same s))
 
 enumerator_gives : (x : List ℕ) (parts : List Part) (s : Known) → Gives 1 s (judged_enumerator x parts s)
@@ -144,19 +149,19 @@ expression_gives k role (Some operands) s = as_gives k operands (verdict s.tags 
 
 pub judged_gives : (k : Kind) (f : Frame) (parts : List Part) (s : Known) → Gives 1 s (judged k f parts s)
 judged_gives (kind.Declaration spec inits) f parts s = typeless_gives _ Statement s s (same s)
-judged_gives (kind.Function spec) f parts s = typeless_gives _ Statement s (close_level s) (record { types = refl; means = refl })
+judged_gives (kind.Function spec) f parts s = typeless_gives _ Statement s (close_level s) (record { types = refl; means = refl; grows = stays s.tags })
 judged_gives (kind.Member spec) f parts s = typeless_gives _ _ s s (same s)
 judged_gives (kind.EnumConst x valued) f parts s = enumerator_gives x parts s
 judged_gives (kind.DeclName x) f parts s = decl_name_gives x f.context.role s
 judged_gives (kind.Star volatiles) f parts s = stepped_gives _ Points s s (same s)
 judged_gives (kind.Brackets inner sized) f parts s = brackets_give parts s
-judged_gives (kind.Params inner void_word) f parts s = stepped_gives _ _ s (close_level s) (record { types = refl; means = refl })
+judged_gives (kind.Params inner void_word) f parts s = stepped_gives _ _ s (close_level s) (record { types = refl; means = refl; grows = stays s.tags })
 judged_gives kind.DeclParens f parts s = stepped_gives _ Keeps s s (same s)
 judged_gives (kind.Param spec) f parts s = has_gives _ _ Nothing _ s s (same s)
 judged_gives (kind.NamedType spec) f parts s = has_gives _ _ _ _ s s (same s)
 judged_gives (kind.InitList comma) f parts s = has_gives [] _ Nothing _ s s (same s)
 judged_gives (kind.Entry by equals) f parts s = entry_gives by f.context.role parts s
-judged_gives kind.Block f parts s = typeless_gives [] Statement s (close_block s) (record { types = refl; means = refl })
+judged_gives kind.Block f parts s = typeless_gives [] Statement s (close_block s) (record { types = refl; means = refl; grows = stays s.tags })
 judged_gives kind.Expression f parts s = typeless_gives [] Statement s s (same s)
 judged_gives kind.If f parts s = typeless_gives _ Statement s s (same s)
 judged_gives kind.While f parts s = typeless_gives _ Statement s s (same s)
@@ -194,21 +199,26 @@ either_same : (s : Known) (b : Bool) (x y : Tagging) → SameNodes s x.known →
 either_same s true x y h k = h
 either_same s false x y h k = k
 
+new_tag_same : (rules : List Rule) (keyword : Keyword) (name : List ℕ) (has_body : Bool) (s : Known)
+    → SameNodes s (new_tag rules keyword name has_body s).known
+new_tag_same rules keyword name has_body s =
+    record { types = refl; means = refl; grows = appended_grows s.tags (new_structure keyword name) }
+
 known_tag_same : (t : TagName) (has_body : Bool) (s : Known) → SameNodes s (known_tag t has_body s).known
-known_tag_same t true s = record { types = refl; means = refl }
+known_tag_same t true s = record { types = refl; means = refl; grows = stays s.tags }
 known_tag_same t false s = same s
 
 tag_from_same : (o : Option TagName) (keyword : Keyword) (name : List ℕ) (has_body : Bool) (s : Known)
     → SameNodes s (tag_from o keyword name has_body s).known
-tag_from_same None keyword name has_body s = record { types = refl; means = refl }
+tag_from_same None keyword name has_body s = new_tag_same [] keyword name has_body s
 tag_from_same (Some t) keyword name has_body s =
     either_same s _ (known_tag t has_body s) (new_tag (Redeclared name ∷ []) keyword name has_body s) (known_tag_same t has_body s)
-    (record { types = refl; means = refl })
+    (new_tag_same (Redeclared name ∷ []) keyword name has_body s)
 
 tagged_same : (keyword : Keyword) (name : List ℕ) (has_body : Bool) (s : Known) → SameNodes s (tagged_as keyword name has_body s).known
 tagged_same keyword name has_body s =
     either_same s (is_nameless name) (new_tag [] keyword name has_body s) (tag_from _ keyword name has_body s)
-    (record { types = refl; means = refl }) (tag_from_same _ keyword name has_body s)
+    (new_tag_same [] keyword name has_body s) (tag_from_same _ keyword name has_body s)
 
 head_same : (storage : Storage) (c : Context) (h : Head) (s : Known) → SameNodes s (of_head storage c h s).1
 head_same storage c (Words type) s = same s
@@ -220,12 +230,12 @@ opened_same : (k : Kind) (c : Context) (s : Known) → SameNodes s (opened k c s
 opened_same (kind.Declaration spec inits) c s = head_same _ c _ s
 opened_same (kind.Function spec) c s =
     let r = head_same (storage_of spec.words) c (head_of spec.words) (record s { autos = 0 }) in
-    record { types = r.types; means = r.means }
+    record { types = r.types; means = r.means; grows = r.grows }
 opened_same (kind.Member spec) c s = head_same _ c _ s
 opened_same (kind.Param spec) c s = head_same _ c _ s
 opened_same (kind.NamedType spec) c s = head_same _ c _ s
-opened_same kind.Block c s = record { types = refl; means = refl }
-opened_same (kind.Params inner void_word) c s = record { types = refl; means = refl }
+opened_same kind.Block c s = record { types = refl; means = refl; grows = stays s.tags }
+opened_same (kind.Params inner void_word) c s = record { types = refl; means = refl; grows = stays s.tags }
 opened_same _ c s = same s
 
 -- PARTS
@@ -273,13 +283,13 @@ object_gives d by base steps (Some n) s =
     ))
     (λ made h. ok_gives s (declare_as d n made.0 (record s { types = made.1 }))
     (Object made.0 steps (last_node s) (initialiser_role d made.0))
-    (record { types = h; means = length-set s.means n.number (declared_meaning d n made.0 (record s { types = made.1 })) }))
+    (record { types = h; means = length-set s.means n.number (declared_meaning d n made.0 (record s { types = made.1 })); grows = stays s.tags }))
 
 body_gives : (steps : List Step) (s : Known) (x : Part × Known) → More 0 s x.1 → Gives 0 s (with_body_open steps x)
 body_gives steps s x h r e =
     let q = record x.1 { autos = parameter_count (object_type (Some x.0) Void) } in
     let z : (x.0, open_body steps q) ≡ r = cc in
-    subst (λ y. More 0 s y.1) z (record { types = h.types; means = h.means })
+    subst (λ y. More 0 s y.1) z (record { types = h.types; means = h.means; grows = h.grows })
 
 function_gives : (steps : List Step) (s : Known) (m : Judged) → Gives 0 s m → Gives 0 s (and_then m (with_body_open steps))
 function_gives steps s m h r e = let x = then_of m (with_body_open steps) r e in body_gives steps s x.0 (h x.0 x.1) r x.2
@@ -290,14 +300,14 @@ member_gives f before steps None s = err_gives 0 s (at_node (last_node s) Malfor
 member_gives f before steps (Some n) s =
     closing_gives s (member_rules s.tags (names_in_braces f.context.role ++ object_names before) n.name) ByNothing f.base steps
     (λ made. Ok (Object made.0 steps (last_node s) Plain, record s { types = made.1 }))
-    (λ made h. ok_gives s (record s { types = made.1 }) (Object made.0 steps (last_node s) Plain) (record { types = h; means = refl }))
+    (λ made h. ok_gives s (record s { types = made.1 }) (Object made.0 steps (last_node s) Plain) (record { types = h; means = refl; grows = stays s.tags }))
 
 parameter_gives : (f : Frame) (steps : List Step) (n : Option NameNode) (s : Known) → Gives 0 s (declare_parameter f steps n s)
 parameter_gives f steps None s =
     bare_gives s ByCaller f.base steps
     (λ made. Ok (Object (adjusted made.0) steps (last_node s) Plain, record s { types = made.1 }))
     (λ made h. ok_gives s (record s { types = made.1 }) (Object (adjusted made.0) steps (last_node s) Plain)
-    (record { types = h; means = refl }))
+    (record { types = h; means = refl; grows = stays s.tags }))
 parameter_gives f steps (Some n) s =
     closing_gives s (λ type. parameter_rules n.name (in_level n.name (innermost s.names))) ByCaller f.base steps
     (λ made. Ok (Object (adjusted made.0) steps (last_node s) Plain, declared_parameter f n made s))
@@ -305,12 +315,13 @@ parameter_gives f steps (Some n) s =
     (record {
       types = length-set made.1 n.number (adjusted made.0) ∙ h;
       means = length-set s.means n.number (parameter_meaning f.context.role);
+      grows = stays s.tags;
     }))
 
 type_gives : (f : Frame) (steps : List Step) (s : Known) → Gives 0 s (close_type f steps s)
 type_gives f steps s =
     bare_gives s ByNothing f.base steps (λ made. Ok (Object made.0 steps (last_node s) Plain, record s { types = made.1 }))
-    (λ made h. ok_gives s (record s { types = made.1 }) (Object made.0 steps (last_node s) Plain) (record { types = h; means = refl }))
+    (λ made h. ok_gives s (record s { types = made.1 }) (Object made.0 steps (last_node s) Plain) (record { types = h; means = refl; grows = stays s.tags }))
 
 declared_gives : (k : Kind) (f : Frame) (before : List Part) (steps : List Step) (rest : SyntaxRow) (s : Known)
     → Gives 0 s (declared k f before steps rest s)
@@ -327,12 +338,12 @@ unless_gives : (broken : List Broken) (s q : Known) (part : Part) → SameNodes 
 unless_gives broken s q part h r e = ok_gives s q part h r (ap (λ x. Ok x) (unless_of broken (part, q) r e))
 
 enumerated_gives : (x : List ℕ) (value : Constant) (s : Known) → Gives 0 s (enumerated x value s)
-enumerated_gives x value s = unless_gives _ s _ _ (record { types = refl; means = length-set s.means (last_node s) (constant_meaning value) })
+enumerated_gives x value s = unless_gives _ s _ _ (record { types = refl; means = length-set s.means (last_node s) (constant_meaning value); grows = stays s.tags })
 
 complete_same : (is_last : Bool) (tag : Option ℕ) (members : List MemberTree) (s : Known) → SameNodes s (complete_if is_last tag members s)
 complete_same is_last None members s = same s
 complete_same false (Some number) members s = same s
-complete_same true (Some number) members s = record { types = refl; means = refl }
+complete_same true (Some number) members s = record { types = refl; means = refl; grows = body_grows s.tags number members }
 
 length_gives : (base : TypeTree) (steps : List Step) (last count : ℕ) (x : List ℕ) (s q : Known)
     → with_given_length base steps last count x s ≡ Ok q → SameNodes s q
@@ -345,7 +356,7 @@ length_gives base steps last count x s q e =
     (closed s.tags ByNothing base (map (with_length count) steps) s.types) made.0 made.1) in
     let m = made.2 in
     let z : record s { types = made.0.1; names = retyped x made.0.0 (innermost s.names) ∷ around s.names } ≡ q = cc in
-    subst (λ y. SameNodes s y) z (record { types = types; means = refl })
+    subst (λ y. SameNodes s y) z (record { types = types; means = refl; grows = stays s.tags })
 
 unchanged : (s q : Known) (m : Result Known Broken) → m ≡ Ok s → m ≡ Ok q → SameNodes s q
 unchanged s q m d e = let z : s ≡ q = cc in subst (λ x. SameNodes s x) z (same s)
@@ -427,3 +438,9 @@ each_node_is_typed items marks t e =
     let a = h.types in
     let b = h.means in
     subst (λ u. (length u.types ≡ nodes_of_row items) × (length u.means ≡ nodes_of_row items)) z (a ∙ omega arith, b ∙ omega arith)
+
+pub sizes_stay : SizesStay
+sizes_stay t c s r type e h k =
+    let g = judge_gives t c s r h in
+    let b = g.grows in
+    layouts_stay s.tags r.1.tags type e b.bodies b.count k

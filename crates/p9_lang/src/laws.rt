@@ -3,24 +3,24 @@ ghost use Rattle.p9_lang.specs.LayoutExamples.{Agreements, Layouts, WordOperatio
 ghost use Rattle.p9_lang.specs.Laws.{AgreementIsDecided, LayoutIsThatOfMembers, LayoutsStay};
 ghost use Rattle.p9_lang.specs.RefusedFiles.{Refusals};
 ghost use Rattle.p9_lang.specs.TypedFiles.{TypedFiles};
-ghost use Rattle.p9_lang.specs.TypingLaws.{EachNodeIsTyped};
+ghost use Rattle.p9_lang.specs.TypingLaws.{EachNodeIsTyped, SizesStay};
 
 /// Sizes and alignments of structures, unions and arrays; members by their names, and through
 /// unnamed substructures.
 #[tactic(auto, using(crate::proofs::Examples::layouts))]
-pub fn layouts()
+pub fn layout_examples()
     ensures { Layouts }
 {}
 
 /// Division, shifts, comparisons and narrowing of words.
 #[tactic(auto, using(crate::proofs::Examples::word_operations))]
-pub fn word_operations()
+pub fn word_examples()
     ensures { WordOperations }
 {}
 
 /// A list's structure agrees with that of another module, and doesn't where a member is renamed.
 #[tactic(auto, using(crate::proofs::Examples::agreements))]
-pub fn agreements()
+pub fn agreement_examples()
     ensures { Agreements }
 {}
 
@@ -56,7 +56,12 @@ pub fn agreement_is_decided()
 {}
 
 /// A file that is typed has one type and one meaning for each of its nodes.
-#[tactic(auto, using(crate::proofs::Counting::each_node_is_typed))]
 pub fn each_node_is_typed()
     ensures { EachNodeIsTyped }
+{}
+
+/// A type that is complete where a node is typed has the same size behind the node.
+#[tactic(auto, using(crate::proofs::Counting::sizes_stay))]
+pub fn sizes_stay()
+    ensures { SizesStay }
 {}
