@@ -6,7 +6,7 @@ use Rattle.p9_lang.specs.declared.tree.Kind.{Kind}
 use Rattle.p9_lang.specs.declared.tree.Kind.TheVariants as kind
 use Rattle.p9_lang.specs.Names.{same_name, is_among}
 use Rattle.p9_lang.specs.Trees.{SyntaxRow}
-use Rattle.p9_lang.specs.Types.{TypeTree, Void, Int, Array, Function, Tags, Meant, Nothing, Outer, Auto, EnumValue, TypeName, row_types}
+use Rattle.p9_lang.specs.Types.{TypeTree, MemberTree, Void, Int, Array, Function, Tags, Meant, Nothing, Outer, Auto, EnumValue, TypeName, row_types}
 use Rattle.p9_lang.specs.Conversions.{is_scalar, same_type}
 use Rattle.p9_lang.specs.Constants.{Operand, Constant, NotConstant, Undefined, Null, constant_at}
 use Rattle.p9_lang.specs.Constants as constants
@@ -81,12 +81,12 @@ abbrev pub function_declaring : Frame → Declaring
 function_declaring f = record { storage = f.storage; is_at_file = true; has_initialiser = false; has_body = true }
 
 -- the names of the function's own parameters go on round its body
+abbrev pub names_of_list : Option (List Declared) → List Declared
+names_of_list None = []
+names_of_list (Some level) = level
+
 abbrev pub open_body : List Step → Known → Known
-open_body steps s = by (own_list steps)
-  where
-    by : Option (List Declared) → Known
-    by None = open_level [] s
-    by (Some level) = open_level level s
+open_body steps s = open_level (names_of_list (own_list steps)) s
 
 abbrev pub parameter_count : TypeTree → ℕ
 parameter_count (Function result parameters) = length (row_types parameters)
@@ -122,6 +122,19 @@ abbrev pub parameter_rules : List ℕ → Option Declared → List Rule
 parameter_rules x None = []
 parameter_rules x (Some old) = Redeclared x ∷ []
 
+abbrev pub declared_parameter : Frame → NameNode → TypeTree × List TypeTree → Known → Known
+declared_parameter f n made s =
+    declare
+    (record {
+      name = n.name;
+      type = adjusted made.0;
+      means = parameter_meaning f.context.role;
+      is_static = false;
+      is_filled = false;
+    })
+    (with_meaning n.number (parameter_meaning f.context.role)
+    (with_type n.number (adjusted made.0) (record s { types = made.1 })))
+
 abbrev pub declare_parameter : Frame → List Step → Option NameNode → Known → Judged
 declare_parameter f steps None s =
     and_then (closed s.tags ByCaller f.base steps s.types)
@@ -130,19 +143,7 @@ declare_parameter f steps (Some n) s =
     and_then
     (named_with (last_node s) (λ type. parameter_rules n.name (in_level n.name (innermost s.names)))
     (closed s.tags ByCaller f.base steps s.types))
-    (λ made. Ok (
-      Object (adjusted made.0) steps (last_node s) Plain,
-      declare
-          (record {
-            name = n.name;
-            type = adjusted made.0;
-            means = parameter_meaning f.context.role;
-            is_static = false;
-            is_filled = false;
-          })
-          (with_meaning n.number (parameter_meaning f.context.role)
-          (with_type n.number (adjusted made.0) (record s { types = made.1 }))),
-    ))
+    (λ made. Ok (Object (adjusted made.0) steps (last_node s) Plain, declared_parameter f n made s))
 
 abbrev pub close_type : Frame → List Step → Known → Judged
 close_type f steps s =
@@ -190,12 +191,13 @@ enumerated x value s =
 
 -- Members: behind the last of a body the structure is complete
 
+abbrev pub complete_if : (is_last : Bool) → Option ℕ → List MemberTree → Known → Known
+complete_if is_last None members s = s
+complete_if false (Some number) members s = s
+complete_if true (Some number) members s = complete_tag number members s
+
 abbrev pub with_members : Frame → List Part → Part → Known → Known
-with_members f before part s = by f.tag
-  where
-    by : Option ℕ → Known
-    by None = s
-    by (Some number) = if suc (length before) == f.braces then complete_tag number (members_in (before ++ part ∷ [])) s else s
+with_members f before part s = complete_if (suc (length before) == f.braces) f.tag (members_in (before ++ part ∷ [])) s
 
 -- Initialisers
 

@@ -19,6 +19,7 @@ pub mod Opening
 pub mod Declaring
 pub mod Typing
 pub mod Files
+pub mod TypingLaws
 pub mod Initialisers
 pub mod Symbols
 pub mod ExampleTrees

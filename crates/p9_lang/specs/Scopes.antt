@@ -217,10 +217,11 @@ tagged_as keyword name has_body s =
     (if has_body then tag_in_level name (innermost s.tag_names) else tag_in_levels name s.tag_names)
     keyword name has_body s
 
--- the body of a structure is complete
+-- the body of a structure is complete; it has one body
+abbrev pub with_body : ℕ → List MemberTree → Option TagTree → Tags → Tags
+with_body number members None tags = tags
+with_body number members (Some tag) tags =
+    slice_set tags number (record tag { members = or_else tag.members (Some members) })
+
 abbrev pub complete_tag : ℕ → List MemberTree → Known → Known
-complete_tag number members s = by (slice_get s.tags number)
-  where
-    by : Option TagTree → Known
-    by None = s
-    by (Some tag) = record s { tags = slice_set s.tags number (record tag { members = Some members }) }
+complete_tag number members s = record s { tags = with_body number members (slice_get s.tags number) s.tags }

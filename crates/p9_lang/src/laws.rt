@@ -3,23 +3,24 @@ ghost use Rattle.p9_lang.specs.LayoutExamples.{Agreements, Layouts, WordOperatio
 ghost use Rattle.p9_lang.specs.Laws.{AgreementIsDecided, LayoutIsThatOfMembers, LayoutsStay};
 ghost use Rattle.p9_lang.specs.RefusedFiles.{Refusals};
 ghost use Rattle.p9_lang.specs.TypedFiles.{TypedFiles};
+ghost use Rattle.p9_lang.specs.TypingLaws.{EachNodeIsTyped, SizesStay};
 
 /// Sizes and alignments of structures, unions and arrays; members by their names, and through
 /// unnamed substructures.
 #[tactic(auto, using(crate::proofs::Examples::layouts))]
-pub fn layouts()
+pub fn layout_examples()
     ensures { Layouts }
 {}
 
 /// Division, shifts, comparisons and narrowing of words.
 #[tactic(auto, using(crate::proofs::Examples::word_operations))]
-pub fn word_operations()
+pub fn word_examples()
     ensures { WordOperations }
 {}
 
 /// A list's structure agrees with that of another module, and doesn't where a member is renamed.
 #[tactic(auto, using(crate::proofs::Examples::agreements))]
-pub fn agreements()
+pub fn agreement_examples()
     ensures { Agreements }
 {}
 
@@ -52,4 +53,15 @@ pub fn layouts_stay()
 #[tactic(auto, using(crate::proofs::Agreeing::agreement_is_decided))]
 pub fn agreement_is_decided()
     ensures { AgreementIsDecided }
+{}
+
+/// A file that is typed has one type and one meaning for each of its nodes.
+pub fn each_node_is_typed()
+    ensures { EachNodeIsTyped }
+{}
+
+/// A type that is complete where a node is typed has the same size behind the node.
+#[tactic(auto, using(crate::proofs::Counting::sizes_stay))]
+pub fn sizes_stay()
+    ensures { SizesStay }
 {}
