@@ -15,15 +15,15 @@ use Rattle.p9_tree.specs.Trees.{Stmt, Nothing, Effect, Block, If, IfElse, While,
 use Rattle.p9_tree.specs.Charges.{stmt_charge, stmt_waiting}
 use Rattle.p9_tree.specs.Meaning.{Function, function_body}
 use Rattle.p9_tree.specs.Modules.{TypedSymbol, Initialiser, TypedModule, module_of}
-use Rattle.p9_tree.specs.Same.{Alike, SameCall, Same}
-use Rattle.p9_tree.specs.TRun.{environment, functions_at, need_of}
+use Rattle.p9_tree.specs.Same.{Alike, SameCall, Same, SameOutcome}
+use Rattle.p9_tree.specs.TRun.{environment, functions_at, need_of, trun}
 use Rattle.p9_tree.specs.Contents.{Write, writes_of, first_cells}
 use Rattle.p9_cmean.specs.Cells.{Cell, State}
 use Rattle.p9_cmean.specs.Plays.{Call}
 use Rattle.p9_cmean.specs.Union.{Entry, FunctionEntry, Union, union_of, weighed_nodes}
 use Rattle.p9_cmean.specs.FirstContents as first
 use Rattle.p9_cmean.specs.Statements as statements
-use Rattle.p9_cmean.specs.CRun.{surroundings}
+use Rattle.p9_cmean.specs.CRun.{surroundings, source_run}
 
 -- SYMBOLS
 
@@ -76,7 +76,7 @@ pub record IsSmall (f : Function) : Type 0 where
 pub record FunctionMeans (program : Union) (entry : FunctionEntry) (f : Function) : Type 0 where
   pub bodies : (turns : ℕ) (call other : Call) (s : State) → SameCall call other
       → Same Alike (statements.function_body turns (surroundings program entry.owner entry.tags) entry.definition call s)
-        (function_body turns (environment program entry.owner) f other s)
+      (function_body turns (environment program entry.owner) f other s)
   pub need : need_of f ≡ entry.need
   pub parameters : f.parameters ≤ length f.sizes
   pub small : IsSmall f
@@ -156,9 +156,15 @@ pub record SourceMeans (m : Source) (typed : TypedModule) : Type 0 where
 abbrev pub Means : Module → TModule → Type 0
 Means m typed = SourceMeans (source_of m) (module_of typed)
 
--- sources, of which some have typed modules that mean the same
-abbrev pub AllMean : List Source → List (Option TypedModule) → Type 0
-AllMean [] typed = Unit {0}
-AllMean (m ∷ ms) [] = Unit {0}
-AllMean (m ∷ ms) (None ∷ ts) = AllMean ms ts
-AllMean (m ∷ ms) (Some t ∷ ts) = SourceMeans m t × AllMean ms ts
+-- sources and their typed modules, one by one
+abbrev pub AllMean : List Source → List TypedModule → Type 0
+AllMean [] [] = Unit {0}
+AllMean [] (t ∷ ts) = ⊥
+AllMean (m ∷ ms) [] = ⊥
+AllMean (m ∷ ms) (t ∷ ts) = SourceMeans m t × AllMean ms ts
+
+-- By typed modules that mean the same, a run that is neither undefined nor too deep comes to the same.
+abbrev pub RunsMeanSame : Type 0
+RunsMeanSame =
+    (modules : List Source) (typed : List TypedModule) → AllMean modules typed → (input : List ℕ) (turns : ℕ)
+    → SameOutcome (source_run modules input turns) (trun modules typed input turns)

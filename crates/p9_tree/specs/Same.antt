@@ -37,11 +37,11 @@ abbrev pub Equal : {A : Type 0} → A → A → Type 0
 Equal x y = x ≡ y
 
 -- One play after the other.
-abbrev pub BindKeepsSame : (A B : Type 0) → Type 1
-BindKeepsSame A B =
-    (R : A → A → Type 0) (Q : B → B → Type 0) (p q : Play A) (k l : A → State → Play B)
-    → Same R p q → ((x y : A) (s : State) → R x y → Same Q (k x s) (l y s))
-    → Same Q (bind p k) (bind q l)
+abbrev pub BindKeepsSame : Type 0
+BindKeepsSame =
+    (p q : Play Value) (k l : Value → State → Play Value)
+    → Same Alike p q → ((v w : Value) (s : State) → Alike v w → Same Alike (k v s) (l w s))
+    → Same Alike (bind p k) (bind q l)
 
 pub record SameLoop (first second : Loop) : Type 0 where
   pub tests : (s : State) → Same Equal (first.test s) (second.test s)

@@ -1,5 +1,5 @@
--- Runs in which functions of some modules do what their typed trees mean. The objects and all else of
--- the union are those of the sources.
+-- Runs in which functions do what their typed trees mean. The objects and all else of the union are
+-- those of the sources.
 use Rattle.std.specs.Prelude.{ℕ, suc, ◌+◌, ◌*◌, ◌++◌, Bool, if◌then◌else◌, List, [], ◌∷◌, map, flat_map, sum, slice_get, Option, Some, None}
 use Rattle.p9_lang.specs.Types.{TypeTree}
 use Rattle.p9_lang.specs.Conversions.{is_function}
@@ -15,8 +15,7 @@ use Rattle.p9_cmean.specs.SystemCalls.{SystemCall, system_call, system_body}
 use Rattle.p9_cmean.specs.Union.{FunctionEntry, Union, union_of, entries_of, functions_in, function_named, object_number, static_number, base_need}
 use Rattle.p9_cmean.specs.Union as union
 use Rattle.p9_cmean.specs.FirstContents.{into}
-use Rattle.p9_cmean.specs.Statements as source
-use Rattle.p9_cmean.specs.CRun.{surroundings, main_call, first_state, return_text}
+use Rattle.p9_cmean.specs.CRun.{main_call, first_state, return_text}
 
 -- WHAT SYMBOLS ARE: trees name the symbols of their module by numbers
 
@@ -45,30 +44,26 @@ environment program owner = record {
   sizes = [];
 }
 
--- FUNCTIONS, with their typed trees where there are such
+-- FUNCTIONS, with their typed trees
 
 pub record Coded : Type 0 where
   pub entry : FunctionEntry
-  pub typed : Option Function
+  pub typed : Function
 
 -- a module's functions stand in the order of its symbols, typed or not
 abbrev pub coded_row : List FunctionEntry → List Function → List Coded
 coded_row [] fs = []
-coded_row (e ∷ es) [] = record { entry = e; typed = None } ∷ coded_row es []
-coded_row (e ∷ es) (f ∷ fs) = record { entry = e; typed = Some f } ∷ coded_row es fs
+coded_row (e ∷ es) [] = []
+coded_row (e ∷ es) (f ∷ fs) = record { entry = e; typed = f } ∷ coded_row es fs
 
 abbrev pub functions_at : (owner : ℕ) → Source → List FunctionEntry
 functions_at owner m = flat_map functions_in (entries_of owner m.tags (symbols m))
 
-abbrev pub typed_functions : Option TypedModule → List Function
-typed_functions None = []
-typed_functions (Some m) = m.functions
-
--- of the modules from this number on; a module without a typed one keeps its source
-abbrev pub coded_from : (owner : ℕ) → List Source → List (Option TypedModule) → List Coded
+-- of the modules from this number on
+abbrev pub coded_from : (owner : ℕ) → List Source → List TypedModule → List Coded
 coded_from owner [] typed = []
-coded_from owner (m ∷ ms) [] = coded_row (functions_at owner m) [] ++ coded_from (suc owner) ms []
-coded_from owner (m ∷ ms) (t ∷ ts) = coded_row (functions_at owner m) (typed_functions t) ++ coded_from (suc owner) ms ts
+coded_from owner (m ∷ ms) [] = []
+coded_from owner (m ∷ ms) (t ∷ ts) = coded_row (functions_at owner m) t.functions ++ coded_from (suc owner) ms ts
 
 abbrev pub found_coded : FunctionName → List Coded → Option Coded
 found_coded function [] = None
@@ -94,22 +89,14 @@ callee coded (Local owner name) = defined (found_coded (Local owner name) coded)
 abbrev pub need_of : Function → ℕ
 need_of f = base_need + 8 * f.nodes + sum (map (λ size. rounded size 4) f.sizes)
 
-abbrev pub coded_body : Union → (turns : ℕ) → FunctionEntry → Option Function → Call → State → Play Value
-coded_body program turns entry None call s = source.function_body turns (surroundings program entry.owner entry.tags) entry.definition call s
-coded_body program turns entry (Some f) call s = function_body turns (environment program entry.owner) f call s
-
-abbrev pub coded_need : FunctionEntry → Option Function → ℕ
-coded_need entry None = entry.need
-coded_need entry (Some f) = need_of f
-
 abbrev pub callee_body : Union → (turns : ℕ) → Callee → Call → State → Play Value
 callee_body program turns (System system) call s = system_body system call s
-callee_body program turns (Defined coded) call s = coded_body program turns coded.entry coded.typed call s
+callee_body program turns (Defined coded) call s = function_body turns (environment program coded.entry.owner) coded.typed call s
 callee_body program turns NoCallee call s = NoMeaning call.place s
 
 abbrev pub callee_need : Callee → ℕ
 callee_need (System call) = base_need
-callee_need (Defined coded) = coded_need coded.entry coded.typed
+callee_need (Defined coded) = need_of coded.typed
 callee_need NoCallee = base_need
 
 abbrev pub functions_of : Union → List Coded → Functions
@@ -118,11 +105,11 @@ functions_of program coded = record {
   need = λ function. callee_need (callee coded function);
 }
 
--- THE RUN of sources, of which some have typed modules
+-- THE RUN of sources by their typed modules
 
 abbrev pub run_of : Union → List Coded → (input : List ℕ) → (turns : ℕ) → End
 run_of program coded input turns =
     calls_to turns (functions_of program coded) base_need turns 0 (main_call program) (first_state program input)
 
-unfoldable pub trun : List Source → List (Option TypedModule) → (input : List ℕ) → (turns : ℕ) → Outcome
+unfoldable pub trun : List Source → List TypedModule → (input : List ℕ) → (turns : ℕ) → Outcome
 trun modules typed input turns = outcome_of return_text (run_of (union_of modules) (coded_from 0 modules typed) input turns)
