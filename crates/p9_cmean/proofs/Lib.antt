@@ -7,3 +7,9 @@ pub mod Bodies
 pub mod Fitting
 pub mod Runs
 pub mod Accesses
+pub mod ExamplesOfExpressions
+pub mod ExamplesOfStatements
+pub mod ExamplesOfCalls
+pub mod ExamplesOfFiles
+pub mod ExamplesOfUndefined
+pub mod ExamplesOfWordCounter

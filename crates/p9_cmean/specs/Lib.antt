@@ -16,3 +16,10 @@ pub mod FirstContents
 pub mod CRun
 pub mod Joins
 pub mod RunLaws
+pub mod ExampleRuns
+pub mod ExamplesOfExpressions
+pub mod ExamplesOfStatements
+pub mod ExamplesOfCalls
+pub mod ExamplesOfFiles
+pub mod ExamplesOfUndefined
+pub mod ExamplesOfWordCounter

@@ -1,5 +1,11 @@
 // Laws of the definitions in `specs/`. Each function does nothing; its contract is the law.
 ghost use Rattle.p9_cmean.specs.PlayLaws.{BindIsAssociative, CallsTakeTurns, DepthIsEnough, LoopsFollow, LoopsLast, TestedLoopsFollow, TestedLoopsLast};
+ghost use Rattle.p9_cmean.specs.ExamplesOfExpressions.{RunsOfExpressions};
+ghost use Rattle.p9_cmean.specs.ExamplesOfStatements.{RunsOfStatements};
+ghost use Rattle.p9_cmean.specs.ExamplesOfCalls.{RunsOfCalls};
+ghost use Rattle.p9_cmean.specs.ExamplesOfFiles.{RunsOfFiles};
+ghost use Rattle.p9_cmean.specs.ExamplesOfUndefined.{RunsOfUndefined};
+ghost use Rattle.p9_cmean.specs.ExamplesOfWordCounter.{RunsOfWordCounter};
 ghost use Rattle.p9_cmean.specs.RunLaws.{AccessInverts, BodiesLast, InputFalls, OutputGrows, RunsGoOn};
 
 /// Plays one after the other may be grouped in either way.
@@ -74,4 +80,44 @@ pub fn input_falls()
 #[tactic(auto, using(crate::proofs::Accesses::access_inverts))]
 pub fn access_inverts()
     ensures { AccessInverts }
+{}
+
+/// What small programs for expressions come to: the conversion to a substructure, the order from left to
+/// right, signs, narrowing, steps, unions, copies, and pointers.
+#[tactic(auto, using(crate::proofs::ExamplesOfExpressions::runs_of_expressions))]
+pub fn runs_of_expressions()
+    ensures { RunsOfExpressions }
+{}
+
+/// What small programs for statements come to: loops, a switch that falls through, blocks with their own
+/// automatics, block statics, and a loop that is out of turns.
+#[tactic(auto, using(crate::proofs::ExamplesOfStatements::runs_of_statements))]
+pub fn runs_of_statements()
+    ensures { RunsOfStatements }
+{}
+
+/// What small programs for calls come to: arguments of `main`, system calls with every kind of count,
+/// calls through pointers, recursion, turns, and room at its exact bound.
+#[tactic(auto, using(crate::proofs::ExamplesOfCalls::runs_of_calls))]
+pub fn runs_of_calls()
+    ensures { RunsOfCalls }
+{}
+
+/// What programs of several files come to, with first contents; and that a type with a renamed member
+/// does not agree.
+#[tactic(auto, using(crate::proofs::ExamplesOfFiles::runs_of_files))]
+pub fn runs_of_files()
+    ensures { RunsOfFiles }
+{}
+
+/// Every cause of an undefined operation, with its place in the second of two files.
+#[tactic(auto, using(crate::proofs::ExamplesOfUndefined::runs_of_undefined))]
+pub fn runs_of_undefined()
+    ensures { RunsOfUndefined }
+{}
+
+/// Two parts of a program that counts words.
+#[tactic(auto, using(crate::proofs::ExamplesOfWordCounter::runs_of_word_counter))]
+pub fn runs_of_word_counter()
+    ensures { RunsOfWordCounter }
 {}
