@@ -3,3 +3,9 @@ pub mod Numbers
 pub mod Outside
 pub mod Calls
 pub mod Memory
+pub mod Core
+pub mod Effects
+pub mod SystemCalls
+pub mod Streams
+pub mod CallBytes
+pub mod Pieces

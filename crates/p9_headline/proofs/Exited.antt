@@ -4,9 +4,9 @@ use Rattle.p9_aout.specs.Image.{ImageParts, image_of}
 use Rattle.p9_aout.specs.declared.format.AoutFault.{AoutFault}
 use Rattle.p9_r3k.specs.Laws.{HasEnded}
 use Rattle.p9_r3k.specs.Machine.{State, run, exit_text}
-use Rattle.p9_r3k.specs.declared.halt.Ending.{Ending}
-use Rattle.p9_r3k.specs.declared.halt.Ending.TheVariants.{Running, Exited, Halted}
-use Rattle.p9_r3k.specs.declared.halt.HaltCause.{HaltCause}
+use Rattle.p9_base.specs.declared.halt.Ending.{Ending}
+use Rattle.p9_base.specs.declared.halt.Ending.TheVariants.{Running, Exited, Halted}
+use Rattle.p9_base.specs.declared.halt.HaltCause.{HaltCause}
 use Rattle.p9_r3k.proofs.Runs.{run-ended, run-sum}
 use Rattle.p9_vi.specs.Run.{vrun, start_of, started, IsExited, HasHalted}
 use Rattle.p9_headline.specs.Headline.{HasExited, IsRunning}

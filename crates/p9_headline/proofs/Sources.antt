@@ -1,6 +1,6 @@
 -- A source whose executable keeps its meaning has ended where the machine has exited, and the machine never halts.
 use Rattle.std.proofs.Common.{◌≡◌, ◌≤◌, ℕ, ◌+◌, List, refl, sym, ap, ◌∙◌, subst, arith}
-use Rattle.p9_r3k.specs.declared.halt.HaltCause.{HaltCause}
+use Rattle.p9_base.specs.declared.halt.HaltCause.{HaltCause}
 use Rattle.p9_vi.specs.Run.{HasHalted}
 use Rattle.p9_headline.specs.Headline.{Seen, SourceRun, Ended, Out, Other, IsDefined, AreDefined, HasExited, KeepsMeaning}
 use Rattle.p9_headline.proofs.Exited.{exits_once, exited_stays, halted_stays, exit_no_halt}

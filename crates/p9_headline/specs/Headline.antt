@@ -1,7 +1,7 @@
 -- The headline: an executable keeps the meaning of a source. No language is named: a source is its run, which says
 -- what is seen of it for each input and number of turns.
 use Rattle.std.specs.Prelude.{◌≡◌, ◌≤◌, ℕ, List, IsSomeAnd}
-use Rattle.p9_r3k.specs.declared.halt.Ending.TheVariants.{Running}
+use Rattle.p9_base.specs.declared.halt.Ending.TheVariants.{Running}
 use Rattle.p9_r3k.specs.Machine.{exit_text}
 use Rattle.p9_vi.specs.Run.{vrun, IsExited}
 

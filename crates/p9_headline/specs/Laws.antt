@@ -1,6 +1,6 @@
 -- What follows from the headline.
 use Rattle.std.specs.Prelude.{◌≡◌, ℕ, ◌+◌, List}
-use Rattle.p9_r3k.specs.declared.halt.HaltCause.{HaltCause}
+use Rattle.p9_base.specs.declared.halt.HaltCause.{HaltCause}
 use Rattle.p9_vi.specs.Run.{HasHalted}
 use Rattle.p9_headline.specs.Headline.{SourceRun, Ended, AreDefined, HasExited, KeepsMeaning}
 

@@ -5,7 +5,9 @@ use Rattle.std.proofs.lemmas.List.{get_or-take, length-replicate}
 use Rattle.std.proofs.lemmas.List.Elements.{All-append, All-replicate, All-set}
 use Rattle.p9_base.specs.Words.{IsWord}
 use Rattle.p9_base.specs.Numbers.{word_at}
-use Rattle.p9_r3k.specs.Memory.{Core, text_start, stack_start, stack_end, read_word}
+use Rattle.p9_base.specs.declared.order.ByteOrder.{ByteOrder}
+use Rattle.p9_base.specs.declared.order.ByteOrder.TheVariants.{Big, Little}
+use Rattle.p9_r3k.specs.Memory.{Core, text_start, stack_start, stack_end, read_word, word_in}
 use Rattle.p9_r3k.specs.Machine.{State, run}
 use Rattle.p9_r3k.specs.Start.{zeros, page_from, low_bytes, start}
 use Rattle.p9_r3k.specs.Laws.{LaidOut, KeepsText, ImageFits, AreBytes, HoldsWords}
@@ -71,7 +73,20 @@ word_at-kept n xs ys i e h =
     word_at-alike xs ys i (index-kept n xs ys i e (omega arith)) (index-kept n xs ys (i + 1) e (omega arith))
     (index-kept n xs ys (i + 2) e (omega arith)) (index-kept n xs ys (i + 3) e (omega arith))
 
-pub low_read : (c : Core) (b : Bool) (a : ℕ) → nat_lt a stack_start ≡ b → b ≡ true → read_word c a ≡ word_at c.low (a - text_start)
+pub word_in-alike :
+    (o : ByteOrder) (xs ys : List ℕ) (i : ℕ) → slice_index ys i ≡ slice_index xs i → slice_index ys (i + 1) ≡ slice_index xs (i + 1) →
+    slice_index ys (i + 2) ≡ slice_index xs (i + 2) → slice_index ys (i + 3) ≡ slice_index xs (i + 3) → word_in o ys i ≡ word_in o xs i
+word_in-alike Big xs ys i a b c d = word_at-alike xs ys i a b c d
+word_in-alike Little xs ys i a b c d = rw (a, b, c, d) refl
+
+pub word_in-kept :
+    (o : ByteOrder) (n : ℕ) (xs ys : List ℕ) (i : ℕ) → take n ys ≡ take n xs → i + 4 ≤ n → word_in o ys i ≡ word_in o xs i
+word_in-kept o n xs ys i e h =
+    word_in-alike o xs ys i (index-kept n xs ys i e (omega arith)) (index-kept n xs ys (i + 1) e (omega arith))
+    (index-kept n xs ys (i + 2) e (omega arith)) (index-kept n xs ys (i + 3) e (omega arith))
+
+pub low_read :
+    (c : Core) (b : Bool) (a : ℕ) → nat_lt a stack_start ≡ b → b ≡ true → read_word c a ≡ word_in c.order c.low (a - text_start)
 low_read c b a e h = rw (e, h) refl
 
 pub below_stack : (a : ℕ) → a < stack_start → nat_lt a stack_start ≡ true
@@ -81,8 +96,9 @@ pub read_word-kept :
     (c d : Core) (a : ℕ) → KeepsText c d → text_start ≤ a → a + 4 ≤ c.data_start → a < stack_start → read_word d a ≡ read_word c a
 read_word-kept c d a kept from to below =
     low_read d true a (below_stack a below) refl
-    ∙ (word_at-kept (c.data_start - text_start) c.low d.low (a - text_start) kept.below_data (omega arith)
-    ∙ sym (low_read c true a (below_stack a below) refl))
+    ∙ (ap (λ o. word_in o d.low (a - text_start)) kept.order
+    ∙ (word_in-kept c.order (c.data_start - text_start) c.low d.low (a - text_start) kept.below_data (omega arith)
+    ∙ sym (low_read c true a (below_stack a below) refl)))
 
 pub index-front : (xs ys zs ws : List ℕ) (i : ℕ) → i < length xs → slice_index (xs ++ ys ++ zs ++ ws) i ≡ slice_index xs i
 index-front xs ys zs ws i h =

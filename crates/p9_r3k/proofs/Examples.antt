@@ -2,10 +2,10 @@
 use Rattle.std.proofs.Common.{ℕ, ◌≡◌, ◌+◌, ◌*◌, ◌++◌, true, false, Option, Some, None, refl, List, [], ◌∷◌, length, replicate, slice_index}
 use Rattle.p9_base.specs.Numbers.{word_bytes}
 use Rattle.p9_r3k.specs.declared.inst.Inst.TheVariants as insts
-use Rattle.p9_r3k.specs.declared.halt.HaltCause.TheVariants as halts
-use Rattle.p9_r3k.specs.declared.halt.Ending.TheVariants.{Running, Exited, Halted}
-use Rattle.p9_r3k.specs.declared.halt.Effect.TheVariants as effects
-use Rattle.p9_r3k.specs.declared.halt.Asked.TheVariants as asks
+use Rattle.p9_base.specs.declared.halt.HaltCause.TheVariants as halts
+use Rattle.p9_base.specs.declared.halt.Ending.TheVariants.{Running, Exited, Halted}
+use Rattle.p9_base.specs.declared.halt.Effect.TheVariants as effects
+use Rattle.p9_base.specs.declared.halt.Asked.TheVariants as asks
 use Rattle.p9_r3k.specs.Table.{decoded}
 use Rattle.p9_r3k.specs.Memory.{Core, text_start}
 use Rattle.p9_r3k.specs.Effects.{effect_of}

@@ -2,8 +2,8 @@
 use Rattle.std.proofs.Common.{ℕ, ◌^◌, ◌<◌, ◌==◌, ◌≡◌, ◌||◌, ◌&&◌, Bool, true, false, not, Option, Some, None, Result, Ok, Err, ap, subst, arith, if◌then◌else◌, IfSome}
 use Rattle.p9_r3k.specs.declared.inst.Inst.{Inst}
 use Rattle.p9_r3k.specs.declared.inst.Inst.TheVariants.{J, Jal, Beq, Bne, Blez, Bgtz, Bltz, Bgez, Bltzal, Bgezal, Addi, Addiu, Slti, Sltiu, Andi, Ori, Xori, Lui, Lb, Lh, Lw, Lbu, Lhu, Sb, Sh, Sw, Sll, Srl, Sra, Sllv, Srlv, Srav, Jr, Jalr, Syscall, Break, Mfhi, Mthi, Mflo, Mtlo, Mult, Multu, Div, Divu, Add, Addu, Sub, Subu, And, Or, Xor, Nor, Slt, Sltu}
-use Rattle.p9_r3k.specs.declared.halt.HaltCause.{HaltCause}
-use Rattle.p9_r3k.specs.declared.halt.HaltCause.TheVariants.{Fetch, LoadHazard, HiLoHazard, SlotBranch}
+use Rattle.p9_base.specs.declared.halt.HaltCause.{HaltCause}
+use Rattle.p9_base.specs.declared.halt.HaltCause.TheVariants.{Fetch, LoadHazard, HiLoHazard, SlotBranch}
 use Rattle.p9_r3k.specs.Fields.{op_of, rs_of, rt_of, rd_of, sh_of, fn_of, imm_of, index_of, code_of}
 use Rattle.p9_r3k.specs.Table.{Fits, decoded, special, regimm}
 use Rattle.p9_r3k.specs.Memory.{Core, read_word}

@@ -6,15 +6,17 @@ use Rattle.std.proofs.lemmas.Bool.Decides.{nat_tests}
 use Rattle.p9_base.specs.Words.{is_negative, word_sum, low8, low16}
 use Rattle.p9_r3k.specs.declared.inst.Inst.{Inst}
 use Rattle.p9_r3k.specs.declared.inst.Inst.TheVariants.{J, Jal, Beq, Bne, Blez, Bgtz, Bltz, Bgez, Bltzal, Bgezal, Addi, Addiu, Slti, Sltiu, Andi, Ori, Xori, Lui, Lb, Lh, Lw, Lbu, Lhu, Sb, Sh, Sw, Sll, Srl, Sra, Sllv, Srlv, Srav, Jr, Jalr, Syscall, Break, Mfhi, Mthi, Mflo, Mtlo, Mult, Multu, Div, Divu, Add, Addu, Sub, Subu, And, Or, Xor, Nor, Slt, Sltu}
-use Rattle.p9_r3k.specs.declared.halt.HaltCause.{HaltCause}
-use Rattle.p9_r3k.specs.declared.halt.HaltCause.TheVariants as halts
-use Rattle.p9_r3k.specs.declared.halt.Ending.{Ending}
-use Rattle.p9_r3k.specs.declared.halt.Ending.TheVariants.{Running, Exited, Halted}
-use Rattle.p9_r3k.specs.declared.halt.Effect.{Effect}
-use Rattle.p9_r3k.specs.declared.halt.Effect.TheVariants as effects
-use Rattle.p9_r3k.specs.declared.halt.Asked.{Asked}
-use Rattle.p9_r3k.specs.declared.halt.Asked.TheVariants as asks
-use Rattle.p9_r3k.specs.Memory.{Core, text_start, stack_start, stack_end, low_end, reg, readable, writable, bytes_from, with_byte, with_half, with_word, with_bytes, over}
+use Rattle.p9_base.specs.declared.halt.HaltCause.{HaltCause}
+use Rattle.p9_base.specs.declared.halt.HaltCause.TheVariants as halts
+use Rattle.p9_base.specs.declared.halt.Ending.{Ending}
+use Rattle.p9_base.specs.declared.halt.Ending.TheVariants.{Running, Exited, Halted}
+use Rattle.p9_base.specs.declared.halt.Effect.{Effect}
+use Rattle.p9_base.specs.declared.halt.Effect.TheVariants as effects
+use Rattle.p9_base.specs.declared.halt.Asked.{Asked}
+use Rattle.p9_base.specs.declared.halt.Asked.TheVariants as asks
+use Rattle.p9_base.specs.declared.order.ByteOrder.{ByteOrder}
+use Rattle.p9_base.specs.declared.order.ByteOrder.TheVariants.{Big, Little}
+use Rattle.p9_r3k.specs.Memory.{Core, text_start, stack_start, stack_end, low_end, reg, readable, writable, bytes_from, with_two, with_four, with_half_in, with_word_in, with_byte, with_half, with_word, with_bytes, over}
 use Rattle.p9_r3k.specs.Effects.{effect_of, address, store_byte, store_half, store_word, reads_pair}
 use Rattle.p9_r3k.specs.Machine.{State, fetched, advanced, argument, then_one, then_three, exits_of, asked_exits, asked_read, asked_write, asked, called, acted, executed, going, step, run}
 use Rattle.p9_r3k.specs.Laws.{LaidOut, KeepsText}
@@ -57,10 +59,11 @@ keeps_low-set c bytes i v h from = record {
 }
 
 pub keeps-same : (c : Core) → KeepsText c c
-keeps-same c = record { text_end = refl; data_start = refl; low_size = refl; stack_size = refl; below_data = refl }
+keeps-same c = record { order = refl; text_end = refl; data_start = refl; low_size = refl; stack_size = refl; below_data = refl }
 
 pub keeps-trans : (c d e : Core) → KeepsText c d → KeepsText d e → KeepsText c e
 keeps-trans c d e h k = record {
+  order = k.order ∙ h.order;
   text_end = k.text_end ∙ h.text_end;
   data_start = k.data_start ∙ h.data_start;
   low_size = k.low_size ∙ h.low_size;
@@ -74,17 +77,17 @@ pub keeps-choice :
     (b : Bool) (c : Core) (bytes stack : List ℕ) → (b ≡ true → KeepsLow c bytes) → (b ≡ false → length stack ≡ length c.stack) →
     KeepsText c (if b then record c { low = bytes } else record c { stack = stack })
 keeps-choice true c bytes stack h k =
-    record { text_end = refl; data_start = refl; low_size = (h refl).size; stack_size = refl; below_data = (h refl).below }
+    record { order = refl; text_end = refl; data_start = refl; low_size = (h refl).size; stack_size = refl; below_data = (h refl).below }
 keeps-choice false c bytes stack h k =
-    record { text_end = refl; data_start = refl; low_size = refl; stack_size = k refl; below_data = refl }
+    record { order = refl; text_end = refl; data_start = refl; low_size = refl; stack_size = k refl; below_data = refl }
 
 pub keeps-advanced : (c d : Core) (reader : Bool) → KeepsText c d → KeepsText c (advanced d reader)
 keeps-advanced c d reader h =
-    record { text_end = h.text_end; data_start = h.data_start; low_size = h.low_size; stack_size = h.stack_size; below_data = h.below_data }
+    record { order = h.order; text_end = h.text_end; data_start = h.data_start; low_size = h.low_size; stack_size = h.stack_size; below_data = h.below_data }
 
 pub keeps-answered : (c d : Core) (regs : List ℕ) → KeepsText c d → KeepsText c (advanced (record d { regs = regs }) false)
 keeps-answered c d regs h =
-    record { text_end = h.text_end; data_start = h.data_start; low_size = h.low_size; stack_size = h.stack_size; below_data = h.below_data }
+    record { order = h.order; text_end = h.text_end; data_start = h.data_start; low_size = h.low_size; stack_size = h.stack_size; below_data = h.below_data }
 
 -- Stores
 
@@ -95,29 +98,56 @@ with_byte-keeps c a v h =
     (λ e. keeps_low-set c c.low (a - text_start) v (keeps_low-same c) (omega (arith, from)))
     (λ e. length-set c.stack (a - stack_start) v)
 
+pub keeps_low-two :
+    (c : Core) (i x y : ℕ) → c.data_start - text_start ≤ i → KeepsLow c (with_two c.low i x y)
+keeps_low-two c i x y h =
+    keeps_low-set c (slice_set c.low i x) (i + 1) y (keeps_low-set c c.low i x (keeps_low-same c) h) (omega (arith, h))
+
+pub keeps_low-four :
+    (c : Core) (i x y z w : ℕ) → c.data_start - text_start ≤ i → KeepsLow c (with_four c.low i x y z w)
+keeps_low-four c i x y z w h =
+    keeps_low-set c (slice_set (with_two c.low i x y) (i + 2) z) (i + 3) w
+    (keeps_low-set c (with_two c.low i x y) (i + 2) z (keeps_low-two c i x y h) (omega (arith, h))) (omega (arith, h))
+
+pub length-two : (bytes : List ℕ) (i x y : ℕ) → length (with_two bytes i x y) ≡ length bytes
+length-two bytes i x y = length-set (slice_set bytes i x) (i + 1) y ∙ length-set bytes i x
+
+pub length-four : (bytes : List ℕ) (i x y z w : ℕ) → length (with_four bytes i x y z w) ≡ length bytes
+length-four bytes i x y z w =
+    length-set (slice_set (with_two bytes i x y) (i + 2) z) (i + 3) w
+    ∙ (length-set (with_two bytes i x y) (i + 2) z ∙ length-two bytes i x y)
+
+pub keeps_low-half :
+    (o : ByteOrder) (c : Core) (i v : ℕ) → c.data_start - text_start ≤ i → KeepsLow c (with_half_in o c.low i v)
+keeps_low-half Big c i v h = keeps_low-two c i (v / 2 ^ 8 % 2 ^ 8) (v % 2 ^ 8) h
+keeps_low-half Little c i v h = keeps_low-two c i (v % 2 ^ 8) (v / 2 ^ 8 % 2 ^ 8) h
+
+pub keeps_low-word :
+    (o : ByteOrder) (c : Core) (i v : ℕ) → c.data_start - text_start ≤ i → KeepsLow c (with_word_in o c.low i v)
+keeps_low-word Big c i v h = keeps_low-four c i (v / 2 ^ 24 % 2 ^ 8) (v / 2 ^ 16 % 2 ^ 8) (v / 2 ^ 8 % 2 ^ 8) (v % 2 ^ 8) h
+keeps_low-word Little c i v h = keeps_low-four c i (v % 2 ^ 8) (v / 2 ^ 8 % 2 ^ 8) (v / 2 ^ 16 % 2 ^ 8) (v / 2 ^ 24 % 2 ^ 8) h
+
+pub length-half : (o : ByteOrder) (bytes : List ℕ) (i v : ℕ) → length (with_half_in o bytes i v) ≡ length bytes
+length-half Big bytes i v = length-two bytes i (v / 2 ^ 8 % 2 ^ 8) (v % 2 ^ 8)
+length-half Little bytes i v = length-two bytes i (v % 2 ^ 8) (v / 2 ^ 8 % 2 ^ 8)
+
+pub length-word : (o : ByteOrder) (bytes : List ℕ) (i v : ℕ) → length (with_word_in o bytes i v) ≡ length bytes
+length-word Big bytes i v = length-four bytes i (v / 2 ^ 24 % 2 ^ 8) (v / 2 ^ 16 % 2 ^ 8) (v / 2 ^ 8 % 2 ^ 8) (v % 2 ^ 8)
+length-word Little bytes i v = length-four bytes i (v % 2 ^ 8) (v / 2 ^ 8 % 2 ^ 8) (v / 2 ^ 16 % 2 ^ 8) (v / 2 ^ 24 % 2 ^ 8)
+
 pub with_half-keeps : (c : Core) (a v : ℕ) → 2 ≤ writable c a → KeepsText c (with_half c a v)
 with_half-keeps c a v h =
     let from : c.data_start ≤ a = writable-low_start a c.data_start (low_end c) 2 (omega arith) h in
-    keeps-choice (nat_lt a stack_start) c (slice_set (slice_set c.low (a - text_start) (v / 2 ^ 8 % 2 ^ 8)) (a - text_start + 1) (v % 2 ^ 8)) (slice_set (slice_set c.stack (a - stack_start) (v / 2 ^ 8 % 2 ^ 8)) (a - stack_start + 1) (v % 2 ^ 8))
-    (λ e. keeps_low-set c (slice_set c.low (a - text_start) (v / 2 ^ 8 % 2 ^ 8)) (a - text_start + 1) (v % 2 ^ 8)
-    (keeps_low-set c c.low (a - text_start) (v / 2 ^ 8 % 2 ^ 8)
-    (keeps_low-same c) (omega (arith, from))) (omega (arith, from)))
-    (λ e. length-set (slice_set c.stack (a - stack_start) (v / 2 ^ 8 % 2 ^ 8)) (a - stack_start + 1) (v % 2 ^ 8)
-    ∙ (length-set c.stack (a - stack_start) (v / 2 ^ 8 % 2 ^ 8)))
+    keeps-choice (nat_lt a stack_start) c (with_half_in c.order c.low (a - text_start) v) (with_half_in c.order c.stack (a - stack_start) v)
+    (λ e. keeps_low-half c.order c (a - text_start) v (omega (arith, from)))
+    (λ e. length-half c.order c.stack (a - stack_start) v)
 
 pub with_word-keeps : (c : Core) (a v : ℕ) → 4 ≤ writable c a → KeepsText c (with_word c a v)
 with_word-keeps c a v h =
     let from : c.data_start ≤ a = writable-low_start a c.data_start (low_end c) 4 (omega arith) h in
-    keeps-choice (nat_lt a stack_start) c (slice_set (slice_set (slice_set (slice_set c.low (a - text_start) (v / 2 ^ 24 % 2 ^ 8)) (a - text_start + 1) (v / 2 ^ 16 % 2 ^ 8)) (a - text_start + 2) (v / 2 ^ 8 % 2 ^ 8)) (a - text_start + 3) (v % 2 ^ 8)) (slice_set (slice_set (slice_set (slice_set c.stack (a - stack_start) (v / 2 ^ 24 % 2 ^ 8)) (a - stack_start + 1) (v / 2 ^ 16 % 2 ^ 8)) (a - stack_start + 2) (v / 2 ^ 8 % 2 ^ 8)) (a - stack_start + 3) (v % 2 ^ 8))
-    (λ e. keeps_low-set c (slice_set (slice_set (slice_set c.low (a - text_start) (v / 2 ^ 24 % 2 ^ 8)) (a - text_start + 1) (v / 2 ^ 16 % 2 ^ 8)) (a - text_start + 2) (v / 2 ^ 8 % 2 ^ 8)) (a - text_start + 3) (v % 2 ^ 8)
-    (keeps_low-set c (slice_set (slice_set c.low (a - text_start) (v / 2 ^ 24 % 2 ^ 8)) (a - text_start + 1) (v / 2 ^ 16 % 2 ^ 8)) (a - text_start + 2) (v / 2 ^ 8 % 2 ^ 8)
-    (keeps_low-set c (slice_set c.low (a - text_start) (v / 2 ^ 24 % 2 ^ 8)) (a - text_start + 1) (v / 2 ^ 16 % 2 ^ 8)
-    (keeps_low-set c c.low (a - text_start) (v / 2 ^ 24 % 2 ^ 8)
-    (keeps_low-same c) (omega (arith, from))) (omega (arith, from))) (omega (arith, from))) (omega (arith, from)))
-    (λ e. length-set (slice_set (slice_set (slice_set c.stack (a - stack_start) (v / 2 ^ 24 % 2 ^ 8)) (a - stack_start + 1) (v / 2 ^ 16 % 2 ^ 8)) (a - stack_start + 2) (v / 2 ^ 8 % 2 ^ 8)) (a - stack_start + 3) (v % 2 ^ 8)
-    ∙ (length-set (slice_set (slice_set c.stack (a - stack_start) (v / 2 ^ 24 % 2 ^ 8)) (a - stack_start + 1) (v / 2 ^ 16 % 2 ^ 8)) (a - stack_start + 2) (v / 2 ^ 8 % 2 ^ 8)
-    ∙ (length-set (slice_set c.stack (a - stack_start) (v / 2 ^ 24 % 2 ^ 8)) (a - stack_start + 1) (v / 2 ^ 16 % 2 ^ 8)
-    ∙ (length-set c.stack (a - stack_start) (v / 2 ^ 24 % 2 ^ 8)))))
+    keeps-choice (nat_lt a stack_start) c (with_word_in c.order c.low (a - text_start) v) (with_word_in c.order c.stack (a - stack_start) v)
+    (λ e. keeps_low-word c.order c (a - text_start) v (omega (arith, from)))
+    (λ e. length-word c.order c.stack (a - stack_start) v)
 
 -- Rooms
 
@@ -244,18 +274,18 @@ asked-room c =
 
 pub called-keeps : (k : Asked) (s : State) → LaidOut s.core → RoomFits k s.core → KeepsText s.core (called k s).core
 called-keeps (asks.Exits at len) s laid h =
-    record { text_end = refl; data_start = refl; low_size = refl; stack_size = refl; below_data = refl }
+    record { order = refl; text_end = refl; data_start = refl; low_size = refl; stack_size = refl; below_data = refl }
 called-keeps (asks.Read at n) s laid h =
     let k : ℕ = min n (length s.left) in
     let fits : length (take k s.left) ≤ n = omega (arith, length-take k s.left) in
     keeps-answered s.core (with_bytes s.core at (take k s.left)) _
     (with_bytes-keeps s.core at (take k s.left) laid (omega (arith, fits, h)))
 called-keeps (asks.Write at n) s laid h =
-    record { text_end = refl; data_start = refl; low_size = refl; stack_size = refl; below_data = refl }
+    record { order = refl; text_end = refl; data_start = refl; low_size = refl; stack_size = refl; below_data = refl }
 called-keeps asks.Refused s laid h =
-    record { text_end = refl; data_start = refl; low_size = refl; stack_size = refl; below_data = refl }
+    record { order = refl; text_end = refl; data_start = refl; low_size = refl; stack_size = refl; below_data = refl }
 called-keeps (asks.Stop cause) s laid h =
-    record { text_end = refl; data_start = refl; low_size = refl; stack_size = refl; below_data = refl }
+    record { order = refl; text_end = refl; data_start = refl; low_size = refl; stack_size = refl; below_data = refl }
 
 -- Effects
 
@@ -365,25 +395,25 @@ effect_of-fits (Sltu rs rt rd) c = tt
 pub acted-keeps :
     (e : Effect) (s : State) (reader : Bool) → LaidOut s.core → StoreFits e s.core → KeepsText s.core (acted e s reader).core
 acted-keeps (effects.Write r v) s reader laid h =
-    record { text_end = refl; data_start = refl; low_size = refl; stack_size = refl; below_data = refl }
+    record { order = refl; text_end = refl; data_start = refl; low_size = refl; stack_size = refl; below_data = refl }
 acted-keeps (effects.Pair hi lo) s reader laid h =
-    record { text_end = refl; data_start = refl; low_size = refl; stack_size = refl; below_data = refl }
+    record { order = refl; text_end = refl; data_start = refl; low_size = refl; stack_size = refl; below_data = refl }
 acted-keeps (effects.Load r v) s reader laid h =
-    record { text_end = refl; data_start = refl; low_size = refl; stack_size = refl; below_data = refl }
+    record { order = refl; text_end = refl; data_start = refl; low_size = refl; stack_size = refl; below_data = refl }
 acted-keeps (effects.StoreByte a v) s reader laid h = keeps-advanced s.core (with_byte s.core a v) reader (with_byte-keeps s.core a v h)
 acted-keeps (effects.StoreHalf a v) s reader laid h = keeps-advanced s.core (with_half s.core a v) reader (with_half-keeps s.core a v h)
 acted-keeps (effects.StoreWord a v) s reader laid h = keeps-advanced s.core (with_word s.core a v) reader (with_word-keeps s.core a v h)
 acted-keeps (effects.Branch r taken to) s reader laid h =
-    record { text_end = refl; data_start = refl; low_size = refl; stack_size = refl; below_data = refl }
+    record { order = refl; text_end = refl; data_start = refl; low_size = refl; stack_size = refl; below_data = refl }
 acted-keeps (effects.JumpTo r to) s reader laid h =
-    record { text_end = refl; data_start = refl; low_size = refl; stack_size = refl; below_data = refl }
+    record { order = refl; text_end = refl; data_start = refl; low_size = refl; stack_size = refl; below_data = refl }
 acted-keeps effects.Call s reader laid h = called-keeps (asked s.core) s laid (asked-room s.core)
 acted-keeps (effects.Stop cause) s reader laid h =
-    record { text_end = refl; data_start = refl; low_size = refl; stack_size = refl; below_data = refl }
+    record { order = refl; text_end = refl; data_start = refl; low_size = refl; stack_size = refl; below_data = refl }
 
 pub executed-keeps : (r : Result Inst HaltCause) (s : State) → LaidOut s.core → KeepsText s.core (executed r s).core
 executed-keeps (Err cause) s laid =
-    record { text_end = refl; data_start = refl; low_size = refl; stack_size = refl; below_data = refl }
+    record { order = refl; text_end = refl; data_start = refl; low_size = refl; stack_size = refl; below_data = refl }
 executed-keeps (Ok i) s laid = acted-keeps (effect_of i s.core) s (reads_pair i) laid (effect_of-fits i s.core)
 
 pub going-keeps : (e : Ending) (s : State) → LaidOut s.core → KeepsText s.core (going e s).core

@@ -7,11 +7,11 @@ use Rattle.p9_r3k.specs.declared.lines.Line.{Line}
 use Rattle.p9_r3k.specs.declared.lines.Value.{Value}
 use Rattle.p9_r3k.specs.declared.lines.Part.{Part}
 use Rattle.p9_r3k.specs.declared.lines.Part.TheVariants.{High, Low, Jump}
-use Rattle.p9_r3k.specs.declared.halt.HaltCause.TheVariants.{Fetch}
-use Rattle.p9_r3k.specs.declared.halt.Ending.{Ending}
-use Rattle.p9_r3k.specs.declared.halt.Ending.TheVariants.{Running, Exited, Halted}
-use Rattle.p9_r3k.specs.declared.halt.Effect.{Effect}
-use Rattle.p9_r3k.specs.declared.halt.Effect.TheVariants as effects
+use Rattle.p9_base.specs.declared.halt.HaltCause.TheVariants.{Fetch}
+use Rattle.p9_base.specs.declared.halt.Ending.{Ending}
+use Rattle.p9_base.specs.declared.halt.Ending.TheVariants.{Running, Exited, Halted}
+use Rattle.p9_base.specs.declared.halt.Effect.{Effect}
+use Rattle.p9_base.specs.declared.halt.Effect.TheVariants as effects
 use Rattle.p9_r3k.specs.Table.{Fits}
 use Rattle.p9_r3k.specs.Memory.{text_start, stack_start, with_half_in, with_word_in}
 use Rattle.p9_r3k.specs.Effects.{effect_of}
@@ -203,14 +203,14 @@ at_once-holds a n target (effects.StoreByte p v) i s small f h = record {
 }
 at_once-holds a n target (effects.StoreHalf p v) i s small f h = record {
   words =
-      memory-words-by (nat_lt p stack_start) s.core (with_half_in s.core.low (p - text_start) v) (with_half_in s.core.stack (p - stack_start) v)
-      h.words (half-bytes s.core.low (p - text_start) v h.words.low_bytes) (half-bytes s.core.stack (p - stack_start) v h.words.stack_bytes);
+      memory-words-by (nat_lt p stack_start) s.core (with_half_in s.core.order s.core.low (p - text_start) v) (with_half_in s.core.order s.core.stack (p - stack_start) v)
+      h.words (half-bytes s.core.order s.core.low (p - text_start) v h.words.low_bytes) (half-bytes s.core.order s.core.stack (p - stack_start) v h.words.stack_bytes);
   left = h.left;
 }
 at_once-holds a n target (effects.StoreWord p v) i s small f h = record {
   words =
-      memory-words-by (nat_lt p stack_start) s.core (with_word_in s.core.low (p - text_start) v) (with_word_in s.core.stack (p - stack_start) v)
-      h.words (word-bytes s.core.low (p - text_start) v h.words.low_bytes) (word-bytes s.core.stack (p - stack_start) v h.words.stack_bytes);
+      memory-words-by (nat_lt p stack_start) s.core (with_word_in s.core.order s.core.low (p - text_start) v) (with_word_in s.core.order s.core.stack (p - stack_start) v)
+      h.words (word-bytes s.core.order s.core.low (p - text_start) v h.words.low_bytes) (word-bytes s.core.order s.core.stack (p - stack_start) v h.words.stack_bytes);
   left = h.left;
 }
 at_once-holds a n target (effects.Branch r taken to) i s small f h =

@@ -11,16 +11,18 @@ use Rattle.p9_base.specs.Numbers.{sign_extended}
 use Rattle.p9_base.proofs.Shifts.{shifted_below}
 use Rattle.p9_r3k.specs.declared.inst.Inst.{Inst}
 use Rattle.p9_r3k.specs.declared.inst.Inst.TheVariants.{J, Jal, Beq, Bne, Blez, Bgtz, Bltz, Bgez, Bltzal, Bgezal, Addi, Addiu, Slti, Sltiu, Andi, Ori, Xori, Lui, Lb, Lh, Lw, Lbu, Lhu, Sb, Sh, Sw, Sll, Srl, Sra, Sllv, Srlv, Srav, Jr, Jalr, Syscall, Break, Mfhi, Mthi, Mflo, Mtlo, Mult, Multu, Div, Divu, Add, Addu, Sub, Subu, And, Or, Xor, Nor, Slt, Sltu}
-use Rattle.p9_r3k.specs.declared.halt.HaltCause.{HaltCause}
-use Rattle.p9_r3k.specs.declared.halt.HaltCause.TheVariants as halts
-use Rattle.p9_r3k.specs.declared.halt.Ending.{Ending}
-use Rattle.p9_r3k.specs.declared.halt.Ending.TheVariants.{Running, Exited, Halted}
-use Rattle.p9_r3k.specs.declared.halt.Effect.{Effect}
-use Rattle.p9_r3k.specs.declared.halt.Effect.TheVariants as effects
-use Rattle.p9_r3k.specs.declared.halt.Asked.{Asked}
-use Rattle.p9_r3k.specs.declared.halt.Asked.TheVariants as asks
+use Rattle.p9_base.specs.declared.halt.HaltCause.{HaltCause}
+use Rattle.p9_base.specs.declared.halt.HaltCause.TheVariants as halts
+use Rattle.p9_base.specs.declared.halt.Ending.{Ending}
+use Rattle.p9_base.specs.declared.halt.Ending.TheVariants.{Running, Exited, Halted}
+use Rattle.p9_base.specs.declared.halt.Effect.{Effect}
+use Rattle.p9_base.specs.declared.halt.Effect.TheVariants as effects
+use Rattle.p9_base.specs.declared.halt.Asked.{Asked}
+use Rattle.p9_base.specs.declared.halt.Asked.TheVariants as asks
+use Rattle.p9_base.specs.declared.order.ByteOrder.{ByteOrder}
+use Rattle.p9_base.specs.declared.order.ByteOrder.TheVariants.{Big, Little}
 use Rattle.p9_r3k.specs.Table.{Fits}
-use Rattle.p9_r3k.specs.Memory.{Core, text_start, stack_start, reg, with_reg, readable, writable, read_byte, read_half, read_word, half_in, word_in, with_half_in, with_word_in, with_byte, with_half, with_word, with_bytes, bytes_from, over}
+use Rattle.p9_r3k.specs.Memory.{Core, text_start, stack_start, reg, with_reg, readable, writable, read_byte, read_half, read_word, half_in, word_in, with_two, with_four, with_half_in, with_word_in, with_byte, with_half, with_word, with_bytes, bytes_from, over}
 use Rattle.p9_r3k.specs.Effects.{effect_of, address, truth, low5, sum_overflows, difference_overflows, unless_overflow, unless_zero, wide_pair, load_byte, load_half, load_word, store_byte, store_half, store_word, reads_pair}
 use Rattle.p9_r3k.specs.Machine.{State, fetched, advanced, halted, linked, sent, argument, then_one, then_three, exits_of, asked_exits, asked_read, asked_write, asked, called, acted, executed, going, step, run}
 use Rattle.p9_r3k.specs.Laws.{AreWords, AreBytes, HoldsWords}
@@ -44,19 +46,29 @@ pub byte-choice : (b : Bool) (xs ys : List ℕ) (i j : ℕ) → AreBytes xs → 
 byte-choice true xs ys i j hx hy = index-below (2 ^ 8) xs i (omega arith) hx
 byte-choice false xs ys i j hx hy = index-below (2 ^ 8) ys j (omega arith) hy
 
-pub half_in-below : (xs : List ℕ) (i : ℕ) → AreBytes xs → half_in xs i < 2 ^ 16
-half_in-below xs i h =
+pub half_in-below : (o : ByteOrder) (xs : List ℕ) (i : ℕ) → AreBytes xs → half_in o xs i < 2 ^ 16
+half_in-below o xs i h =
     let a : slice_index xs i < 2 ^ 8 = index-below (2 ^ 8) xs i (omega arith) h in
     let b : slice_index xs (i + 1) < 2 ^ 8 = index-below (2 ^ 8) xs (i + 1) (omega arith) h in
-    omega (arith, a, b)
+    by_order o a b
+  where
+    by_order : (o : ByteOrder) → slice_index xs i < 2 ^ 8 → slice_index xs (i + 1) < 2 ^ 8 → half_in o xs i < 2 ^ 16
+    by_order Big a b = omega (arith, a, b)
+    by_order Little a b = omega (arith, a, b)
 
-pub word_in-below : (xs : List ℕ) (i : ℕ) → AreBytes xs → word_in xs i < 2 ^ 32
-word_in-below xs i h =
+pub word_in-below : (o : ByteOrder) (xs : List ℕ) (i : ℕ) → AreBytes xs → word_in o xs i < 2 ^ 32
+word_in-below o xs i h =
     let a : slice_index xs i < 2 ^ 8 = index-below (2 ^ 8) xs i (omega arith) h in
     let b : slice_index xs (i + 1) < 2 ^ 8 = index-below (2 ^ 8) xs (i + 1) (omega arith) h in
     let c : slice_index xs (i + 2) < 2 ^ 8 = index-below (2 ^ 8) xs (i + 2) (omega arith) h in
     let d : slice_index xs (i + 3) < 2 ^ 8 = index-below (2 ^ 8) xs (i + 3) (omega arith) h in
-    omega (arith, a, b, c, d)
+    by_order o a b c d
+  where
+    by_order :
+        (o : ByteOrder) → slice_index xs i < 2 ^ 8 → slice_index xs (i + 1) < 2 ^ 8 → slice_index xs (i + 2) < 2 ^ 8
+        → slice_index xs (i + 3) < 2 ^ 8 → word_in o xs i < 2 ^ 32
+    by_order Big a b c d = omega (arith, a, b, c, d)
+    by_order Little a b c d = omega (arith, a, b, c, d)
 
 pub read_byte-below : (c : Core) (a : ℕ) → HoldsWords c → read_byte c a < 2 ^ 8
 read_byte-below c a h =
@@ -68,13 +80,13 @@ choice-below false n x y hx hy = hy
 
 pub read_half-below : (c : Core) (a : ℕ) → HoldsWords c → read_half c a < 2 ^ 16
 read_half-below c a h =
-    choice-below (nat_lt a stack_start) (2 ^ 16) (half_in c.low (a - text_start)) (half_in c.stack (a - stack_start))
-    (half_in-below c.low (a - text_start) h.low_bytes) (half_in-below c.stack (a - stack_start) h.stack_bytes)
+    choice-below (nat_lt a stack_start) (2 ^ 16) (half_in c.order c.low (a - text_start)) (half_in c.order c.stack (a - stack_start))
+    (half_in-below c.order c.low (a - text_start) h.low_bytes) (half_in-below c.order c.stack (a - stack_start) h.stack_bytes)
 
 pub read_word-below : (c : Core) (a : ℕ) → HoldsWords c → read_word c a < 2 ^ 32
 read_word-below c a h =
-    choice-below (nat_lt a stack_start) (2 ^ 32) (word_in c.low (a - text_start)) (word_in c.stack (a - stack_start))
-    (word_in-below c.low (a - text_start) h.low_bytes) (word_in-below c.stack (a - stack_start) h.stack_bytes)
+    choice-below (nat_lt a stack_start) (2 ^ 32) (word_in c.order c.low (a - text_start)) (word_in c.order c.stack (a - stack_start))
+    (word_in-below c.order c.low (a - text_start) h.low_bytes) (word_in-below c.order c.stack (a - stack_start) h.stack_bytes)
 
 -- Values
 
@@ -329,20 +341,27 @@ set-bytes xs i v small h = All-set (λ b. b < 2 ^ 8) xs i v small h
 pub low8-byte : (x : ℕ) → x % 2 ^ 8 < 2 ^ 8
 low8-byte x = omega arith
 
-pub half-bytes : (xs : List ℕ) (i v : ℕ) → AreBytes xs → AreBytes (with_half_in xs i v)
-half-bytes xs i v h =
-    set-bytes (slice_set xs i (v / 2 ^ 8 % 2 ^ 8)) (i + 1) (v % 2 ^ 8) (low8-byte v)
-    (set-bytes xs i (v / 2 ^ 8 % 2 ^ 8) (low8-byte (v / 2 ^ 8)) h)
+pub two-bytes : (xs : List ℕ) (i x y : ℕ) → x < 2 ^ 8 → y < 2 ^ 8 → AreBytes xs → AreBytes (with_two xs i x y)
+two-bytes xs i x y hx hy h = set-bytes (slice_set xs i x) (i + 1) y hy (set-bytes xs i x hx h)
 
-pub word-bytes : (xs : List ℕ) (i v : ℕ) → AreBytes xs → AreBytes (with_word_in xs i v)
-word-bytes xs i v h =
-    let one : List ℕ = slice_set xs i (v / 2 ^ 24 % 2 ^ 8) in
-    let two : List ℕ = slice_set one (i + 1) (v / 2 ^ 16 % 2 ^ 8) in
-    let three : List ℕ = slice_set two (i + 2) (v / 2 ^ 8 % 2 ^ 8) in
-    set-bytes three (i + 3) (v % 2 ^ 8) (low8-byte v)
-    (set-bytes two (i + 2) (v / 2 ^ 8 % 2 ^ 8) (low8-byte (v / 2 ^ 8))
-    (set-bytes one (i + 1) (v / 2 ^ 16 % 2 ^ 8) (low8-byte (v / 2 ^ 16))
-    (set-bytes xs i (v / 2 ^ 24 % 2 ^ 8) (low8-byte (v / 2 ^ 24)) h)))
+pub four-bytes :
+    (xs : List ℕ) (i x y z w : ℕ) → x < 2 ^ 8 → y < 2 ^ 8 → z < 2 ^ 8 → w < 2 ^ 8 → AreBytes xs →
+    AreBytes (with_four xs i x y z w)
+four-bytes xs i x y z w hx hy hz hw h =
+    set-bytes (slice_set (with_two xs i x y) (i + 2) z) (i + 3) w hw
+    (set-bytes (with_two xs i x y) (i + 2) z hz (two-bytes xs i x y hx hy h))
+
+pub half-bytes : (o : ByteOrder) (xs : List ℕ) (i v : ℕ) → AreBytes xs → AreBytes (with_half_in o xs i v)
+half-bytes Big xs i v h = two-bytes xs i (v / 2 ^ 8 % 2 ^ 8) (v % 2 ^ 8) (low8-byte (v / 2 ^ 8)) (low8-byte v) h
+half-bytes Little xs i v h = two-bytes xs i (v % 2 ^ 8) (v / 2 ^ 8 % 2 ^ 8) (low8-byte v) (low8-byte (v / 2 ^ 8)) h
+
+pub word-bytes : (o : ByteOrder) (xs : List ℕ) (i v : ℕ) → AreBytes xs → AreBytes (with_word_in o xs i v)
+word-bytes Big xs i v h =
+    four-bytes xs i (v / 2 ^ 24 % 2 ^ 8) (v / 2 ^ 16 % 2 ^ 8) (v / 2 ^ 8 % 2 ^ 8) (v % 2 ^ 8)
+    (low8-byte (v / 2 ^ 24)) (low8-byte (v / 2 ^ 16)) (low8-byte (v / 2 ^ 8)) (low8-byte v) h
+word-bytes Little xs i v h =
+    four-bytes xs i (v % 2 ^ 8) (v / 2 ^ 8 % 2 ^ 8) (v / 2 ^ 16 % 2 ^ 8) (v / 2 ^ 24 % 2 ^ 8)
+    (low8-byte v) (low8-byte (v / 2 ^ 8)) (low8-byte (v / 2 ^ 16)) (low8-byte (v / 2 ^ 24)) h
 
 pub over-bytes : (xs : List ℕ) (i : ℕ) (ys : List ℕ) → AreBytes xs → AreBytes ys → AreBytes (over xs i ys)
 over-bytes xs i ys hx hy =
@@ -540,15 +559,15 @@ acted-words (effects.StoreByte a v) s reader f h = record {
 acted-words (effects.StoreHalf a v) s reader f h = record {
   words =
       advanced-words (with_half s.core a v) reader
-      (memory-words-by (nat_lt a stack_start) s.core (with_half_in s.core.low (a - text_start) v) (with_half_in s.core.stack (a - stack_start) v)
-      h.words (half-bytes s.core.low (a - text_start) v h.words.low_bytes) (half-bytes s.core.stack (a - stack_start) v h.words.stack_bytes));
+      (memory-words-by (nat_lt a stack_start) s.core (with_half_in s.core.order s.core.low (a - text_start) v) (with_half_in s.core.order s.core.stack (a - stack_start) v)
+      h.words (half-bytes s.core.order s.core.low (a - text_start) v h.words.low_bytes) (half-bytes s.core.order s.core.stack (a - stack_start) v h.words.stack_bytes));
   left = h.left;
 }
 acted-words (effects.StoreWord a v) s reader f h = record {
   words =
       advanced-words (with_word s.core a v) reader
-      (memory-words-by (nat_lt a stack_start) s.core (with_word_in s.core.low (a - text_start) v) (with_word_in s.core.stack (a - stack_start) v)
-      h.words (word-bytes s.core.low (a - text_start) v h.words.low_bytes) (word-bytes s.core.stack (a - stack_start) v h.words.stack_bytes));
+      (memory-words-by (nat_lt a stack_start) s.core (with_word_in s.core.order s.core.low (a - text_start) v) (with_word_in s.core.order s.core.stack (a - stack_start) v)
+      h.words (word-bytes s.core.order s.core.low (a - text_start) v h.words.low_bytes) (word-bytes s.core.order s.core.stack (a - stack_start) v h.words.stack_bytes));
   left = h.left;
 }
 acted-words (effects.Branch r taken to) s reader f h = record {

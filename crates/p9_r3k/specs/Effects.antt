@@ -1,47 +1,16 @@
--- What one instruction does, apart from when it happens.
-use Rattle.std.specs.Prelude.{ℕ, ◌+◌, ◌*◌, ◌/◌, ◌%◌, ◌^◌, ◌==◌, ◌||◌, nat_lt, nat_le, Bool, true, false, not, if◌then◌else◌, bit_and, bit_or, bit_xor}
-use Rattle.p9_base.specs.Words.{word_sum, word_difference, is_negative, is_signed_less, signs_differ, signed_quotient, signed_remainder, unsigned_product, signed_product, shift_left, shift_right, shift_right_signed, low8, low16, word_nor}
+-- What each instruction does, apart from when it happens.
+use Rattle.std.specs.Prelude.{ℕ, ◌+◌, ◌*◌, ◌/◌, ◌%◌, ◌^◌, ◌==◌, ◌||◌, nat_lt, Bool, true, false, not, bit_and, bit_or, bit_xor}
+use Rattle.p9_base.specs.Words.{word_sum, word_difference, is_negative, is_signed_less, signed_quotient, signed_remainder, unsigned_product, signed_product, shift_left, shift_right, shift_right_signed, word_nor}
 use Rattle.p9_base.specs.Numbers.{sign_extended}
+pub use Rattle.p9_base.specs.Effects.{truth, low5, sum_overflows, difference_overflows, unless_overflow, wide_pair, unless_zero, address, load_byte, load_half, load_word, store_byte, store_half, store_word}
 use Rattle.p9_r3k.specs.declared.inst.Inst.{Inst}
 use Rattle.p9_r3k.specs.declared.inst.Inst.TheVariants.{J, Jal, Beq, Bne, Blez, Bgtz, Bltz, Bgez, Bltzal, Bgezal, Addi, Addiu, Slti, Sltiu, Andi, Ori, Xori, Lui, Lb, Lh, Lw, Lbu, Lhu, Sb, Sh, Sw, Sll, Srl, Sra, Sllv, Srlv, Srav, Jr, Jalr, Syscall, Break, Mfhi, Mthi, Mflo, Mtlo, Mult, Multu, Div, Divu, Add, Addu, Sub, Subu, And, Or, Xor, Nor, Slt, Sltu}
-use Rattle.p9_r3k.specs.declared.halt.HaltCause.TheVariants as halts
-use Rattle.p9_r3k.specs.declared.halt.Effect.{Effect}
-use Rattle.p9_r3k.specs.declared.halt.Effect.TheVariants.{Write, Pair, Load, StoreByte, StoreHalf, StoreWord, Branch, JumpTo, Call, Stop}
-use Rattle.p9_r3k.specs.Memory.{Core, reg, readable, writable, read_byte, read_half, read_word}
+use Rattle.p9_base.specs.declared.halt.HaltCause.TheVariants as halts
+use Rattle.p9_base.specs.declared.halt.Effect.{Effect}
+use Rattle.p9_base.specs.declared.halt.Effect.TheVariants.{Write, Pair, Branch, JumpTo, Call, Stop}
+use Rattle.p9_base.specs.Core.{Core, reg}
 
--- Values
-
--- 1 or 0
-abbrev pub truth : Bool → ℕ
-truth b = if b then 1 else 0
-
-abbrev pub low5 : ℕ → ℕ
-low5 a = a % 2 ^ 5
-
--- the signed sum doesn't fit: two words of one sign whose sum has the other
-abbrev pub sum_overflows : ℕ → ℕ → Bool
-sum_overflows a b = if signs_differ a b then false else signs_differ a (word_sum a b)
-
--- the signed difference doesn't fit: two words of two signs, and the difference has the second's
-abbrev pub difference_overflows : ℕ → ℕ → Bool
-difference_overflows a b = if signs_differ a b then signs_differ a (word_difference a b) else false
-
-abbrev pub unless_overflow : Bool → ℕ → ℕ → Effect
-unless_overflow overflows r v = if overflows then Stop halts.Overflow else Write r v
-
--- HI and LO from 64 bits
-abbrev pub wide_pair : ℕ → Effect
-wide_pair p = Pair (p / 2 ^ 32) (p % 2 ^ 32)
-
--- a division's remainder to HI and quotient to LO
-abbrev pub unless_zero : ℕ → ℕ → ℕ → Effect
-unless_zero divisor rest quotient = if divisor == 0 then Stop halts.Divide else Pair rest quotient
-
--- Places
-
--- a load's or store's address
-abbrev pub address : Core → ℕ → ℕ → ℕ
-address c rs imm = word_sum (reg c rs) (sign_extended 16 imm)
+-- Branches and jumps
 
 -- where a branch goes, if it is taken
 abbrev pub branch_to : Core → ℕ → ℕ
@@ -50,35 +19,6 @@ branch_to c imm = (c.pc + 4 + 4 * sign_extended 16 imm) % 2 ^ 32
 -- where a jump goes: in the 256 MiB of the instruction after it
 abbrev pub jump_to : Core → ℕ → ℕ
 jump_to c index = word_sum c.pc 4 / 2 ^ 28 * 2 ^ 28 + index * 4
-
--- Loads and stores; a place that isn't a multiple of the size stops first
-
-abbrev pub load_byte : Core → ℕ → ℕ → (ℕ → ℕ) → Effect
-load_byte c r a extended =
-    if nat_le 1 (readable c a) then Load r (extended (read_byte c a)) else Stop (halts.BadAddress a)
-
-abbrev pub load_half : Core → ℕ → ℕ → (ℕ → ℕ) → Effect
-load_half c r a extended =
-    if a % 2 == 0 then (if nat_le 2 (readable c a) then Load r (extended (read_half c a)) else Stop (halts.BadAddress a))
-    else Stop (halts.Misaligned a)
-
-abbrev pub load_word : Core → ℕ → ℕ → Effect
-load_word c r a =
-    if a % 4 == 0 then (if nat_le 4 (readable c a) then Load r (read_word c a) else Stop (halts.BadAddress a))
-    else Stop (halts.Misaligned a)
-
-abbrev pub store_byte : Core → ℕ → ℕ → Effect
-store_byte c a v = if nat_le 1 (writable c a) then StoreByte a (low8 v) else Stop (halts.BadAddress a)
-
-abbrev pub store_half : Core → ℕ → ℕ → Effect
-store_half c a v =
-    if a % 2 == 0 then (if nat_le 2 (writable c a) then StoreHalf a (low16 v) else Stop (halts.BadAddress a))
-    else Stop (halts.Misaligned a)
-
-abbrev pub store_word : Core → ℕ → ℕ → Effect
-store_word c a v =
-    if a % 4 == 0 then (if nat_le 4 (writable c a) then StoreWord a v else Stop (halts.BadAddress a))
-    else Stop (halts.Misaligned a)
 
 -- Instructions
 

@@ -2,8 +2,8 @@
 use Rattle.std.specs.Prelude.{ℕ, ◌+◌, ◌-◌, ◌^◌, ◌≡◌, ◌≤◌, ◌<◌, ◌++◌, List, length, take, All}
 use Rattle.p9_base.specs.Words.{IsWord}
 use Rattle.p9_base.specs.Numbers.{word_at}
-use Rattle.p9_r3k.specs.declared.halt.Ending.{Ending}
-use Rattle.p9_r3k.specs.declared.halt.Ending.TheVariants.{Running, Exited, Halted}
+use Rattle.p9_base.specs.declared.halt.Ending.{Ending}
+use Rattle.p9_base.specs.declared.halt.Ending.TheVariants.{Running, Exited, Halted}
 use Rattle.p9_r3k.specs.declared.lines.Line.{Line}
 use Rattle.p9_r3k.specs.Memory.{Core, text_start, stack_start, stack_end, reg, low_end, read_word}
 use Rattle.p9_r3k.specs.Machine.{State, run}
@@ -44,8 +44,9 @@ pub record LaidOut (c : Core) : Type 0 where
   pub above : low_end c ≤ stack_start
   pub stack_size : length c.stack ≡ stack_end - stack_start
 
--- the places and sizes are the same, and so is every byte below the data
+-- the byte order, the places and the sizes are the same, and so is every byte below the data
 pub record KeepsText (c d : Core) : Type 0 where
+  pub order : d.order ≡ c.order
   pub text_end : d.text_end ≡ c.text_end
   pub data_start : d.data_start ≡ c.data_start
   pub low_size : length d.low ≡ length c.low

@@ -1,7 +1,8 @@
 -- The machine's start.
 use Rattle.std.specs.Prelude.{ℕ, ◌+◌, ◌-◌, ◌*◌, ◌/◌, ◌^◌, false, List, [], ◌++◌, length, replicate, slice_set}
 use Rattle.p9_base.specs.Words.{word_sum}
-use Rattle.p9_r3k.specs.declared.halt.Ending.TheVariants.{Running}
+use Rattle.p9_base.specs.declared.halt.Ending.TheVariants.{Running}
+use Rattle.p9_base.specs.declared.order.ByteOrder.TheVariants.{Big}
 use Rattle.p9_r3k.specs.Memory.{Core, text_start, stack_end}
 use Rattle.p9_r3k.specs.Machine.{State}
 
@@ -16,6 +17,7 @@ page_from a = (a + 4095) / 4096 * 4096
 -- registers but 29, HI and LO are 0
 abbrev pub before_run : (low stack : List ℕ) → (text_end data_start entry : ℕ) → Core
 before_run low stack text_end data_start entry = record {
+  order = Big;
   regs = slice_set (replicate 32 0) 29 stack_end;
   hi = 0;
   lo = 0;

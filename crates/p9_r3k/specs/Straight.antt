@@ -7,11 +7,11 @@ use Rattle.p9_r3k.specs.declared.lines.Line.{Line}
 use Rattle.p9_r3k.specs.declared.lines.Value.{Value}
 use Rattle.p9_r3k.specs.declared.lines.Part.{Part}
 use Rattle.p9_r3k.specs.declared.lines.Part.TheVariants.{High, Low, Jump}
-use Rattle.p9_r3k.specs.declared.halt.HaltCause.TheVariants.{Fetch}
-use Rattle.p9_r3k.specs.declared.halt.Ending.{Ending}
-use Rattle.p9_r3k.specs.declared.halt.Ending.TheVariants.{Running, Exited, Halted}
-use Rattle.p9_r3k.specs.declared.halt.Effect.{Effect}
-use Rattle.p9_r3k.specs.declared.halt.Effect.TheVariants.{Write, Pair, Load, StoreByte, StoreHalf, StoreWord, Branch, JumpTo, Call, Stop}
+use Rattle.p9_base.specs.declared.halt.HaltCause.TheVariants.{Fetch}
+use Rattle.p9_base.specs.declared.halt.Ending.{Ending}
+use Rattle.p9_base.specs.declared.halt.Ending.TheVariants.{Running, Exited, Halted}
+use Rattle.p9_base.specs.declared.halt.Effect.{Effect}
+use Rattle.p9_base.specs.declared.halt.Effect.TheVariants.{Write, Pair, Load, StoreByte, StoreHalf, StoreWord, Branch, JumpTo, Call, Stop}
 use Rattle.p9_r3k.specs.Memory.{text_start, with_reg, with_byte, with_half, with_word}
 use Rattle.p9_r3k.specs.Effects.{effect_of}
 use Rattle.p9_r3k.specs.Machine.{State, halted, asked, called}

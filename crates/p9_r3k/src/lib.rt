@@ -2,16 +2,15 @@
 #![tactic(auto)]
 
 mod code;
-mod halt;
 mod inst;
 mod laws;
 mod lines;
 
 pub use code::{decode, encode};
-pub use halt::{Asked, Effect, Ending, HaltCause};
 pub use inst::Inst;
 pub use laws::{machine_laws, pending_laws, straight_laws, text_laws, word_laws};
 pub use lines::{Line, Lines, Part, Value};
+pub use p9_base::{Asked, Effect, Ending, HaltCause};
 
 #[cfg(test)]
 mod tests;

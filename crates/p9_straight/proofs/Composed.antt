@@ -5,8 +5,8 @@ use Rattle.p9_first.specs.Form.{IsFile}
 use Rattle.p9_base.specs.Words.{is_negative}
 use Rattle.p9_first.specs.Turns.{Outcome, Ended, Out, Undefined, Deep}
 use Rattle.p9_first.specs.CRun.{source_run}
-use Rattle.p9_r3k.specs.declared.halt.Ending.{Ending}
-use Rattle.p9_r3k.specs.declared.halt.Ending.TheVariants.{Running, Exited, Halted}
+use Rattle.p9_base.specs.declared.halt.Ending.{Ending}
+use Rattle.p9_base.specs.declared.halt.Ending.TheVariants.{Running, Exited, Halted}
 use Rattle.p9_r3k.specs.Machine.{State, run, exit_text}
 use Rattle.p9_r3k.specs.Laws.{HasEnded}
 use Rattle.p9_r3k.proofs.Runs.{run-ended, run-sum}

@@ -1,6 +1,7 @@
 -- A word stored among bytes: it is read back, and what lies apart stays.
 use Rattle.std.proofs.Common.{◌≡◌, ◌≢◌, ℕ, ◌+◌, ◌-◌, ◌*◌, ◌/◌, ◌%◌, ◌^◌, ◌<◌, ◌≤◌, ◌⊎◌, List, length, take, drop, slice_index, slice_set, sym, ap, ◌∙◌, arith, inl, inr}
 use Rattle.std.proofs.lemmas.List.{get_or-set_same, get_or-set_other, length-set, take-set-le, drop-set-lt, drop-set-add}
+use Rattle.p9_base.specs.declared.order.ByteOrder.TheVariants.{Big}
 use Rattle.p9_base.specs.Numbers.{word_at}
 use Rattle.p9_r3k.specs.Memory.{with_word_in}
 use Rattle.p9_r3k.proofs.Begins.{word_at-alike}
@@ -48,9 +49,9 @@ has_four bytes i a b c d h =
       four = same_byte z (i + 3) d (omega (arith, lx, ly, lz));
     }
 
-pub word_stored : (bytes : List ℕ) (i v : ℕ) → i + 4 ≤ length bytes → v < 2 ^ 32 → word_at (with_word_in bytes i v) i ≡ v
+pub word_stored : (bytes : List ℕ) (i v : ℕ) → i + 4 ≤ length bytes → v < 2 ^ 32 → word_at (with_word_in Big bytes i v) i ≡ v
 word_stored bytes i v h small =
-    let f : HasFour (with_word_in bytes i v) i (v / 2 ^ 24 % 2 ^ 8) (v / 2 ^ 16 % 2 ^ 8) (v / 2 ^ 8 % 2 ^ 8) (v % 2 ^ 8) =
+    let f : HasFour (with_word_in Big bytes i v) i (v / 2 ^ 24 % 2 ^ 8) (v / 2 ^ 16 % 2 ^ 8) (v / 2 ^ 8 % 2 ^ 8) (v % 2 ^ 8) =
     has_four bytes i (v / 2 ^ 24 % 2 ^ 8) (v / 2 ^ 16 % 2 ^ 8) (v / 2 ^ 8 % 2 ^ 8) (v % 2 ^ 8) h in
     rw (f.one, f.two, f.three, f.four) (parts v small)
   where
@@ -61,22 +62,22 @@ word_stored bytes i v h small =
 abbrev pub AreApart : (i j : ℕ) → Type 0
 AreApart i j = (i + 4 ≤ j) ⊎ (j + 4 ≤ i)
 
-byte_apart : (bytes : List ℕ) (i j k v : ℕ) → AreApart i j → k ≤ 3 → slice_index (with_word_in bytes j v) (i + k) ≡ slice_index bytes (i + k)
+byte_apart : (bytes : List ℕ) (i j k v : ℕ) → AreApart i j → k ≤ 3 → slice_index (with_word_in Big bytes j v) (i + k) ≡ slice_index bytes (i + k)
 byte_apart bytes i j k v (inl h) l =
     other_four bytes j (i + k) (v / 2 ^ 24 % 2 ^ 8) (v / 2 ^ 16 % 2 ^ 8) (v / 2 ^ 8 % 2 ^ 8) (v % 2 ^ 8) (omega arith) (omega arith) (omega arith) (omega arith)
 byte_apart bytes i j k v (inr h) l =
     other_four bytes j (i + k) (v / 2 ^ 24 % 2 ^ 8) (v / 2 ^ 16 % 2 ^ 8) (v / 2 ^ 8 % 2 ^ 8) (v % 2 ^ 8) (omega arith) (omega arith) (omega arith) (omega arith)
 
-pub word_apart : (bytes : List ℕ) (i j v : ℕ) → AreApart i j → word_at (with_word_in bytes j v) i ≡ word_at bytes i
+pub word_apart : (bytes : List ℕ) (i j v : ℕ) → AreApart i j → word_at (with_word_in Big bytes j v) i ≡ word_at bytes i
 word_apart bytes i j v h =
-    let e : slice_index (with_word_in bytes j v) (i + 0) ≡ slice_index bytes (i + 0) = byte_apart bytes i j 0 v h (omega arith) in
+    let e : slice_index (with_word_in Big bytes j v) (i + 0) ≡ slice_index bytes (i + 0) = byte_apart bytes i j 0 v h (omega arith) in
     let z : i + 0 ≡ i = omega arith in
-    word_at-alike bytes (with_word_in bytes j v) i
-    (ap (λ k. slice_index (with_word_in bytes j v) k) (sym z) ∙ (e ∙ ap (λ k. slice_index bytes k) z))
+    word_at-alike bytes (with_word_in Big bytes j v) i
+    (ap (λ k. slice_index (with_word_in Big bytes j v) k) (sym z) ∙ (e ∙ ap (λ k. slice_index bytes k) z))
     (byte_apart bytes i j 1 v h (omega arith)) (byte_apart bytes i j 2 v h (omega arith)) (byte_apart bytes i j 3 v h (omega arith))
 
 -- bytes before the word stay
-pub take_before : (bytes : List ℕ) (n i v : ℕ) → n ≤ i → take n (with_word_in bytes i v) ≡ take n bytes
+pub take_before : (bytes : List ℕ) (n i v : ℕ) → n ≤ i → take n (with_word_in Big bytes i v) ≡ take n bytes
 take_before bytes n i v h =
     let x : List ℕ = slice_set bytes i (v / 2 ^ 24 % 2 ^ 8) in
     let y : List ℕ = slice_set x (i + 1) (v / 2 ^ 16 % 2 ^ 8) in
@@ -95,7 +96,7 @@ set_ahead : (bytes : List ℕ) (n k i a : ℕ) → i < k → take n (drop k (sli
 set_ahead bytes n k i a h = ap (λ l. take n l) (drop-set-lt k bytes i a h)
 
 -- n bytes from place k on stay, where the word lies apart from them
-pub part_stays : (bytes : List ℕ) (n k i v : ℕ) → (i + 4 ≤ k) ⊎ (k + n ≤ i) → take n (drop k (with_word_in bytes i v)) ≡ take n (drop k bytes)
+pub part_stays : (bytes : List ℕ) (n k i v : ℕ) → (i + 4 ≤ k) ⊎ (k + n ≤ i) → take n (drop k (with_word_in Big bytes i v)) ≡ take n (drop k bytes)
 part_stays bytes n k i v (inl h) =
     let x : List ℕ = slice_set bytes i (v / 2 ^ 24 % 2 ^ 8) in
     let y : List ℕ = slice_set x (i + 1) (v / 2 ^ 16 % 2 ^ 8) in

@@ -9,8 +9,9 @@ use Rattle.std.proofs.lemmas.Grind.{common_steps}
 use Rattle.std.proofs.Math.Seq.{take-length}
 use Rattle.p9_r3k.specs.declared.inst.Inst.{Inst}
 use Rattle.p9_r3k.specs.declared.inst.Inst.TheVariants.{Addiu, Sw, Syscall}
-use Rattle.p9_r3k.specs.declared.halt.Asked.{Asked}
-use Rattle.p9_r3k.specs.declared.halt.Asked.TheVariants as asks
+use Rattle.p9_base.specs.declared.order.ByteOrder.TheVariants.{Big}
+use Rattle.p9_base.specs.declared.halt.Asked.{Asked}
+use Rattle.p9_base.specs.declared.halt.Asked.TheVariants as asks
 use Rattle.p9_r3k.specs.Memory.{Core, text_start, stack_start, stack_end, readable, read_word, word_in, with_word_in, bytes_from}
 use Rattle.p9_r3k.specs.Machine.{State, run, argument, then_one, exits_of, asked_exits, asked, called, exit_text}
 use Rattle.p9_r3k.proofs.Begins.{below_stack}
@@ -33,12 +34,12 @@ argument_by c a v aligned room read =
 not_below : (a : ℕ) → stack_start ≤ a → nat_lt a stack_start ≡ false
 not_below a h = grind (arith, nat_tests)
 
-pub argument_is : (m : Fixed) (regs low stack : List ℕ) (pc : ℕ) (out : List ℕ) (a v : ℕ) → Room m low → a % 4 ≡ 0 → stack_start ≤ a → a + 4 ≤ stack_end → word_in stack (a - stack_start) ≡ v → argument (standing m regs low stack pc 0 out).core a ≡ Ok v
+pub argument_is : (m : Fixed) (regs low stack : List ℕ) (pc : ℕ) (out : List ℕ) (a v : ℕ) → Room m low → a % 4 ≡ 0 → stack_start ≤ a → a + 4 ≤ stack_end → word_in Big stack (a - stack_start) ≡ v → argument (standing m regs low stack pc 0 out).core a ≡ Ok v
 argument_is m regs low stack pc out a v room aligned from to read =
     let c : Core = (standing m regs low stack pc 0 out).core in
     let reach : readable c a ≡ stack_end - a = stack_readable m regs low stack pc 0 out a room from (omega (arith, to)) in
     argument_by c a v aligned (omega (arith, reach, to))
-    (ap (λ b. if b then word_in low (a - text_start) else word_in stack (a - stack_start)) (not_below a from) ∙ read)
+    (ap (λ b. if b then word_in Big low (a - text_start) else word_in Big stack (a - stack_start)) (not_below a from) ∙ read)
 
 -- Texts
 
@@ -126,7 +127,7 @@ exited_text m regs low stack pc out text at room has =
 
 -- the first argument is stored
 abbrev pub with_first : (stack : List ℕ) (v : ℕ) → List ℕ
-with_first stack v = with_word_in stack 0xFFFFF4 v
+with_first stack v = with_word_in Big stack 0xFFFFF4 v
 
 abbrev pub IsStack : List ℕ → Type 0
 IsStack stack = length stack ≡ 2 ^ 24

@@ -4,6 +4,7 @@ use Rattle.std.proofs.Common.{◌≡◌, ◌≢◌, ℕ, ◌+◌, ◌-◌, ◌/�
 use Rattle.std.specs.Prelude.{◌==◌, if◌then◌else◌, Contains}
 use Rattle.std.proofs.lemmas.Bool.Decides.{nat_tests}
 use Rattle.std.proofs.lemmas.List.{get_or-set_same}
+use Rattle.p9_base.specs.declared.order.ByteOrder.TheVariants.{Big}
 use Rattle.p9_base.specs.Numbers.{word_at}
 use Rattle.p9_first.specs.Form.{same_name}
 use Rattle.p9_r3k.specs.declared.inst.Inst.TheVariants.{Lw, Sw}
@@ -108,10 +109,10 @@ places_apart begin a b g ha hb ma mb ne = by_order (leb_cases a b)
     by_order (inl h) = inl (omega arith)
     by_order (inr h) = inr (omega arith)
 
-variable_by : (t : Bool) (m : Fixed) (place : List ℕ → ℕ) (names : List (List ℕ)) (init : List ℕ) (values : Values) (low : List ℕ) (x : List ℕ) (n : ℕ) (y : List ℕ) → same_name y x ≡ t → Memory m place names init values low → Contains names x → n < 2 ^ 32 → Contains names y → word_at (with_word_in low (place x - text_start) n) (place y - text_start) ≡ (if t then n else values y)
+variable_by : (t : Bool) (m : Fixed) (place : List ℕ → ℕ) (names : List (List ℕ)) (init : List ℕ) (values : Values) (low : List ℕ) (x : List ℕ) (n : ℕ) (y : List ℕ) → same_name y x ≡ t → Memory m place names init values low → Contains names x → n < 2 ^ 32 → Contains names y → word_at (with_word_in Big low (place x - text_start) n) (place y - text_start) ≡ (if t then n else values y)
 variable_by true m place names init values low x n y e memory here small there =
     let within : place x - text_start + 4 ≤ length low = omega (arith, memory.within x here, memory.from x here, memory.room.gap) in
-    ap (λ z. word_at (with_word_in low (place x - text_start) n) (place z - text_start)) (is_same y x e)
+    ap (λ z. word_at (with_word_in Big low (place x - text_start) n) (place z - text_start)) (is_same y x e)
     ∙ word_stored low (place x - text_start) n within small
 variable_by false m place names init values low x n y e memory here small there =
     let ne : place y ≢ place x = (λ p. differs x y e (memory.apart y x there here p)) in
@@ -128,9 +129,9 @@ text_apart begin p at n g hp ha (inl h) = inl (omega arith)
 text_apart begin p at n g hp ha (inr h) = inr (omega arith)
 
 -- a word is stored in a variable
-pub memory_assigned : (m : Fixed) (place : List ℕ → ℕ) (names : List (List ℕ)) (init : List ℕ) (values : Values) (low : List ℕ) (x : List ℕ) (n : ℕ) → Memory m place names init values low → Contains names x → n < 2 ^ 32 → Memory m place names init (assigned values x n) (with_word_in low (place x - text_start) n)
+pub memory_assigned : (m : Fixed) (place : List ℕ → ℕ) (names : List (List ℕ)) (init : List ℕ) (values : Values) (low : List ℕ) (x : List ℕ) (n : ℕ) → Memory m place names init values low → Contains names x → n < 2 ^ 32 → Memory m place names init (assigned values x n) (with_word_in Big low (place x - text_start) n)
 memory_assigned m place names init values low x n memory here small =
-    let size : length (with_word_in low (place x - text_start) n) ≡ length low =
+    let size : length (with_word_in Big low (place x - text_start) n) ≡ length low =
     length-four low (place x - text_start) (n / 2 ^ 24 % 2 ^ 8) (n / 2 ^ 16 % 2 ^ 8) (n / 2 ^ 8 % 2 ^ 8) (n % 2 ^ 8) in
     let start : text_start ≤ m.begin = omega (arith, memory.room.gap) in
     record {
@@ -154,9 +155,9 @@ memory_assigned m place names init values low x n memory here small =
     }
 
 -- the word in register 2 is stored in a variable
-pub stores : (m : Fixed) (place : List ℕ → ℕ) (names : List (List ℕ)) (init : List ℕ) (values : Values) (one two three four : ℕ) (low stack : List ℕ) (pc : ℕ) (out : List ℕ) (x : List ℕ) → Memory m place names init values low → Contains names x → Follows m.text pc (store_code place x) → run (length (store_code place x)) (standing m (registers one two three four) low stack pc 0 out) ≡ standing m (registers one two three (place x)) (with_word_in low (place x - text_start) two) stack (behind pc (store_code place x)) 0 out
+pub stores : (m : Fixed) (place : List ℕ → ℕ) (names : List (List ℕ)) (init : List ℕ) (values : Values) (one two three four : ℕ) (low stack : List ℕ) (pc : ℕ) (out : List ℕ) (x : List ℕ) → Memory m place names init values low → Contains names x → Follows m.text pc (store_code place x) → run (length (store_code place x)) (standing m (registers one two three four) low stack pc 0 out) ≡ standing m (registers one two three (place x)) (with_word_in Big low (place x - text_start) two) stack (behind pc (store_code place x)) 0 out
 stores m place names init values one two three four low stack pc out x memory known code =
-    let last : State = standing m (registers one two three (place x)) (with_word_in low (place x - text_start) two) stack (pc + 4 + 4 + 4) 0 out in
+    let last : State = standing m (registers one two three (place x)) (with_word_in Big low (place x - text_start) two) stack (pc + 4 + 4 + 4) 0 out in
     ran_both (set_register 4 (place x)) (Sw 4 2 0 ∷ []) (standing m (registers one two three four) low stack pc 0 out) (standing m (registers one two three (place x)) low stack (pc + 4 + 4) 0 out) last
     (sets m (registers one two three four) low stack pc out 4 (place x) memory.room (follows_first m.text pc (set_register 4 (place x)) (Sw 4 2 0 ∷ []) code) (lit< tt) (lit< tt))
     (ran_then (Sw 4 2 0) [] (standing m (registers one two three (place x)) low stack (pc + 4 + 4) 0 out) last last

@@ -2,6 +2,7 @@
 use Rattle.std.proofs.Common.{◌≡◌, ℕ, zero, suc, ◌+◌, ◌-◌, ◌%◌, ◌^◌, ◌<◌, ◌≤◌, Bool, true, false, lit<, List, [], ◌∷◌, ◌++◌, length, take, append_assoc, length-append, nat_le, Option, Some, None, refl, sym, ap, ◌∙◌, subst, arith}
 use Rattle.std.specs.Prelude.{if◌then◌else◌, Contains, flat_map}
 use Rattle.std.proofs.lemmas.Bool.Decides.{nat_tests}
+use Rattle.p9_base.specs.declared.order.ByteOrder.TheVariants.{Big}
 use Rattle.p9_base.specs.Words.{word_sum, is_negative}
 use Rattle.p9_r3k.specs.declared.inst.Inst.{Inst}
 use Rattle.p9_r3k.specs.declared.inst.Inst.TheVariants.{Addu}
@@ -39,7 +40,7 @@ pub record Assigned (m : Fixed) (place : List ℕ → ℕ) (code : List Inst) (s
   pub two : ℕ
   pub three : ℕ
   pub four : ℕ
-  pub runs : run (length code) s ≡ standing m (registers one two three four) (with_word_in low (place x - text_start) n) stack (behind pc code) 0 out
+  pub runs : run (length code) s ≡ standing m (registers one two three four) (with_word_in Big low (place x - text_start) n) stack (behind pc code) 0 out
 
 assigns_one : (m : Fixed) (place : List ℕ → ℕ) (names : List (List ℕ)) (init : List ℕ) (values : Values) (one two three four : ℕ) (low stack : List ℕ) (pc : ℕ) (out x : List ℕ) (left : Operand) → Memory m place names init values low → Contains names x → IsKnown names left → Follows m.text pc (load_operand place 2 left ++ store_code place x) →
     Assigned m place (load_operand place 2 left ++ store_code place x) (standing m (registers one two three four) low stack pc 0 out) low stack pc out x (operand_value values left)
@@ -49,7 +50,7 @@ assigns_one m place names init values one two three four low stack pc out x left
     let next : ℕ = behind pc first in
     let s0 : State = standing m (registers one two three four) low stack pc 0 out in
     let s1 : State = standing m (registers one v three four) low stack next 0 out in
-    let s2 : State = standing m (registers one v three (place x)) (with_word_in low (place x - text_start) v) stack (behind next (store_code place x)) 0 out in
+    let s2 : State = standing m (registers one v three (place x)) (with_word_in Big low (place x - text_start) v) stack (behind next (store_code place x)) 0 out in
     record {
       one = one;
       two = v;
@@ -59,7 +60,7 @@ assigns_one m place names init values one two three four low stack pc out x left
           ran_both first (store_code place x) s0 s1 s2
           (loads m place names init values (registers one two three four) low stack pc out 2 left memory known (follows_first m.text pc first (store_code place x) code) (lit< tt) (lit< tt))
           (stores m place names init values one v three four low stack next out x memory here (follows_then m.text pc first (store_code place x) code))
-          ∙ stands_behind m (registers one v three (place x)) (with_word_in low (place x - text_start) v) stack pc first (store_code place x) out;
+          ∙ stands_behind m (registers one v three (place x)) (with_word_in Big low (place x - text_start) v) stack pc first (store_code place x) out;
     }
 
 sums : (m : Fixed) (place : List ℕ → ℕ) (names : List (List ℕ)) (init : List ℕ) (values : Values) (one a three four : ℕ) (low stack : List ℕ) (pc : ℕ) (out x : List ℕ) (right : Operand) → Memory m place names init values low → Contains names x → IsKnown names right → Follows m.text pc (load_operand place 3 right ++ (Addu 2 3 2 ∷ store_code place x)) →
@@ -72,7 +73,7 @@ sums m place names init values one a three four low stack pc out x right memory 
     let s0 : State = standing m (registers one a three four) low stack pc 0 out in
     let s1 : State = standing m (registers one a b four) low stack next 0 out in
     let s2 : State = standing m (registers one (word_sum a b) b four) low stack (next + 4) 0 out in
-    let s3 : State = standing m (registers one (word_sum a b) b (place x)) (with_word_in low (place x - text_start) (word_sum a b)) stack (behind next last) 0 out in
+    let s3 : State = standing m (registers one (word_sum a b) b (place x)) (with_word_in Big low (place x - text_start) (word_sum a b)) stack (behind next last) 0 out in
     let rest : Follows m.text next last = follows_then m.text pc first last code in
     record {
       one = one;
@@ -85,7 +86,7 @@ sums m place names init values one a three four low stack pc out x right memory 
           (ran_then (Addu 2 3 2) (store_code place x) s1 s2 s3
           (step_addu m (registers one a b four) low stack next out 2 3 2 memory.room rest.0)
           (stores m place names init values one (word_sum a b) b four low stack (next + 4) out x memory here rest.1))
-          ∙ stands_behind m (registers one (word_sum a b) b (place x)) (with_word_in low (place x - text_start) (word_sum a b)) stack pc first last out;
+          ∙ stands_behind m (registers one (word_sum a b) b (place x)) (with_word_in Big low (place x - text_start) (word_sum a b)) stack pc first last out;
     }
 
 assigns_two : (m : Fixed) (place : List ℕ → ℕ) (names : List (List ℕ)) (init : List ℕ) (values : Values) (one two three four : ℕ) (low stack : List ℕ) (pc : ℕ) (out x : List ℕ) (left right : Operand) → Memory m place names init values low → Contains names x → IsKnown names left → IsKnown names right → Follows m.text pc (statement_code place 0 (Assign x left (Some right))) →
@@ -99,7 +100,7 @@ assigns_two m place names init values one two three four low stack pc out x left
     let s1 : State = standing m (registers one a three four) low stack next 0 out in
     let rest : Assigned m place last s1 low stack next out x (sum_value values left (Some right)) =
     sums m place names init values one a three four low stack next out x right memory here known_right (follows_then m.text pc first last code) in
-    let s2 : State = standing m (registers rest.one rest.two rest.three rest.four) (with_word_in low (place x - text_start) (sum_value values left (Some right))) stack (behind next last) 0 out in
+    let s2 : State = standing m (registers rest.one rest.two rest.three rest.four) (with_word_in Big low (place x - text_start) (sum_value values left (Some right))) stack (behind next last) 0 out in
     record {
       one = rest.one;
       two = rest.two;
@@ -109,7 +110,7 @@ assigns_two m place names init values one two three four low stack pc out x left
           ran_both first last s0 s1 s2
           (loads m place names init values (registers one two three four) low stack pc out 2 left memory known_left (follows_first m.text pc first last code) (lit< tt) (lit< tt))
           rest.runs
-          ∙ stands_behind m (registers rest.one rest.two rest.three rest.four) (with_word_in low (place x - text_start) (sum_value values left (Some right))) stack pc first last out;
+          ∙ stands_behind m (registers rest.one rest.two rest.three rest.four) (with_word_in Big low (place x - text_start) (sum_value values left (Some right))) stack pc first last out;
     }
 
 assigns : (m : Fixed) (place : List ℕ → ℕ) (names : List (List ℕ)) (init : List ℕ) (values : Values) (one two three four : ℕ) (low stack : List ℕ) (pc at : ℕ) (out x : List ℕ) (left : Operand) (right : Option Operand) → Memory m place names init values low → AreIn names (names_in (Assign x left right)) → IsFit (Assign x left right) → Follows m.text pc (statement_code place at (Assign x left right)) →
@@ -212,7 +213,7 @@ statements_go m place names init values one two three four low stack pc at end o
     let names_here : AreIn names (names_in (Assign x left right)) = in_front names (names_in (Assign x left right)) (flat_map names_in ss) known in
     let did : Assigned m place first s low stack pc out x v =
     assigns m place names init values one two three four low stack pc at out x left right memory names_here fit.0 (follows_first m.text pc first rest code) in
-    let after : List ℕ = with_word_in low (place x - text_start) v in
+    let after : List ℕ = with_word_in Big low (place x - text_start) v in
     let later : Memory m place names init (assigned values x v) after =
     memory_assigned m place names init values low x v memory (in_first names x (named_by left ++ named_if right) names_here)
     (sum_word m place names init values low x left right memory names_here fit.0) in

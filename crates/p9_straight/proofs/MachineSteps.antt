@@ -3,15 +3,16 @@ use Rattle.std.proofs.Common.{◌≡◌, ℕ, ◌+◌, ◌-◌, ◌*◌, ◌%◌
 use Rattle.std.specs.Prelude.{◌==◌, bit_or, if◌then◌else◌}
 use Rattle.std.proofs.lemmas.Bool.Decides.{nat_tests}
 use Rattle.std.proofs.Math.Seq.{take-length}
+use Rattle.p9_base.specs.declared.order.ByteOrder.TheVariants.{Big}
 use Rattle.p9_base.specs.Words.{word_sum, shift_left}
 use Rattle.p9_base.specs.Numbers.{word_at, sign_extended}
 use Rattle.p9_r3k.specs.declared.inst.Inst.{Inst}
 use Rattle.p9_r3k.specs.declared.inst.Inst.TheVariants.{Addiu, Lui, Ori, Lw, Sw, Sll, Addu, Syscall}
-use Rattle.p9_r3k.specs.declared.halt.Ending.TheVariants.{Running}
-use Rattle.p9_r3k.specs.declared.halt.Effect.{Effect}
-use Rattle.p9_r3k.specs.declared.halt.Effect.TheVariants as effects
-use Rattle.p9_r3k.specs.declared.halt.Asked.{Asked}
-use Rattle.p9_r3k.specs.declared.halt.Asked.TheVariants as asks
+use Rattle.p9_base.specs.declared.halt.Ending.TheVariants.{Running}
+use Rattle.p9_base.specs.declared.halt.Effect.{Effect}
+use Rattle.p9_base.specs.declared.halt.Effect.TheVariants as effects
+use Rattle.p9_base.specs.declared.halt.Asked.{Asked}
+use Rattle.p9_base.specs.declared.halt.Asked.TheVariants as asks
 use Rattle.p9_r3k.specs.Memory.{Core, text_start, stack_start, stack_end, with_reg, readable, writable, read_word, with_word_in, bytes_from}
 use Rattle.p9_r3k.specs.Effects.{effect_of, load_word, store_word, reads, reads_pair, writes_pair}
 use Rattle.p9_r3k.specs.Machine.{State, advanced, without_hazard, fetched, asked, called, acted, executed, going, step}
@@ -30,6 +31,7 @@ abbrev pub placed : (m : Fixed) (regs low stack : List ℕ) (pc next loaded : �
 placed m regs low stack pc next loaded out = record {
   core = record {
     regs = regs;
+    order = Big;
     hi = 0;
     lo = 0;
     low = low;
@@ -220,7 +222,7 @@ step_lw m regs low stack pc out s r a v room at holds aligned from to read =
     ∙ ap (λ n. placed m (with_reg regs r v) low stack (pc + 4) n r out) (next_at m.text pc (Lw s r 0) at)
 
 -- a register's word is stored in data at the address in register s
-pub step_sw : (m : Fixed) (regs low stack : List ℕ) (pc : ℕ) (out : List ℕ) (s r a v : ℕ) → Room m low → IsAt m.text pc (Sw s r 0) → slice_index regs s ≡ a → slice_index regs r ≡ v → a % 4 ≡ 0 → m.begin ≤ a → a + 4 ≤ text_start + length low → step (standing m regs low stack pc 0 out) ≡ standing m regs (with_word_in low (a - text_start) v) stack (pc + 4) 0 out
+pub step_sw : (m : Fixed) (regs low stack : List ℕ) (pc : ℕ) (out : List ℕ) (s r a v : ℕ) → Room m low → IsAt m.text pc (Sw s r 0) → slice_index regs s ≡ a → slice_index regs r ≡ v → a % 4 ≡ 0 → m.begin ≤ a → a + 4 ≤ text_start + length low → step (standing m regs low stack pc 0 out) ≡ standing m regs (with_word_in Big low (a - text_start) v) stack (pc + 4) 0 out
 step_sw m regs low stack pc out s r a v room at holds value aligned from to =
     let c : Core = (standing m regs low stack pc 0 out).core in
     let small : a < 2 ^ 26 = omega (arith, to, room.small) in
@@ -229,31 +231,31 @@ step_sw m regs low stack pc out s r a v room at holds value aligned from to =
     step_of m regs low stack pc 0 out (Sw s r 0) (effects.StoreWord a v) room at refl refl
     (ap (λ x. store_word c x (slice_index regs r)) place ∙ (ap (λ x. store_word c a x) value ∙ store_is c a v aligned (omega (arith, reach, to))))
     ∙ (ap (λ b. stored b c a v) (below_stack a (omega (arith, small)))
-    ∙ ap (λ n. placed m regs (with_word_in low (a - text_start) v) stack (pc + 4) n 0 out) (next_at m.text pc (Sw s r 0) at))
+    ∙ ap (λ n. placed m regs (with_word_in Big low (a - text_start) v) stack (pc + 4) n 0 out) (next_at m.text pc (Sw s r 0) at))
   where
     stored : Bool → Core → (a v : ℕ) → State
     stored b c a v = record {
-      core = advanced (if b then record c { low = with_word_in c.low (a - text_start) v } else record c { stack = with_word_in c.stack (a - stack_start) v }) false;
+      core = advanced (if b then record c { low = with_word_in c.order c.low (a - text_start) v } else record c { stack = with_word_in c.order c.stack (a - stack_start) v }) false;
       left = m.input;
       out = out;
     }
 
 -- a register's word is stored in the stack, at an address above the one in register s
-pub step_sw_stack : (m : Fixed) (regs low stack : List ℕ) (pc : ℕ) (out : List ℕ) (s r k a v : ℕ) → Room m low → IsAt m.text pc (Sw s r k) → word_sum (slice_index regs s) (sign_extended 16 k) ≡ a → slice_index regs r ≡ v → a % 4 ≡ 0 → stack_start ≤ a → a + 4 ≤ stack_end → step (standing m regs low stack pc 0 out) ≡ standing m regs low (with_word_in stack (a - stack_start) v) (pc + 4) 0 out
+pub step_sw_stack : (m : Fixed) (regs low stack : List ℕ) (pc : ℕ) (out : List ℕ) (s r k a v : ℕ) → Room m low → IsAt m.text pc (Sw s r k) → word_sum (slice_index regs s) (sign_extended 16 k) ≡ a → slice_index regs r ≡ v → a % 4 ≡ 0 → stack_start ≤ a → a + 4 ≤ stack_end → step (standing m regs low stack pc 0 out) ≡ standing m regs low (with_word_in Big stack (a - stack_start) v) (pc + 4) 0 out
 step_sw_stack m regs low stack pc out s r k a v room at place value aligned from to =
     let c : Core = (standing m regs low stack pc 0 out).core in
     let reach : writable c a ≡ stack_end - a = writable_stack m.begin (text_start + length low) a (omega (arith, room.data_within, room.small)) room.small from (omega (arith, to)) in
     step_of m regs low stack pc 0 out (Sw s r k) (effects.StoreWord a v) room at refl refl
     (ap (λ x. store_word c x (slice_index regs r)) place ∙ (ap (λ x. store_word c a x) value ∙ store_is c a v aligned (omega (arith, reach, to))))
     ∙ (ap (λ b. stored b c a v) (not_below a from)
-    ∙ ap (λ n. placed m regs low (with_word_in stack (a - stack_start) v) (pc + 4) n 0 out) (next_at m.text pc (Sw s r k) at))
+    ∙ ap (λ n. placed m regs low (with_word_in Big stack (a - stack_start) v) (pc + 4) n 0 out) (next_at m.text pc (Sw s r k) at))
   where
     not_below : (a : ℕ) → stack_start ≤ a → nat_lt a stack_start ≡ false
     not_below a h = grind (arith, nat_tests)
 
     stored : Bool → Core → (a v : ℕ) → State
     stored b c a v = record {
-      core = advanced (if b then record c { low = with_word_in c.low (a - text_start) v } else record c { stack = with_word_in c.stack (a - stack_start) v }) false;
+      core = advanced (if b then record c { low = with_word_in c.order c.low (a - text_start) v } else record c { stack = with_word_in c.order c.stack (a - stack_start) v }) false;
       left = m.input;
       out = out;
     }

@@ -6,7 +6,7 @@ use Rattle.std.proofs.Math.ListN.{get_or-append}
 use Rattle.std.proofs.lemmas.List.{get_or-append-add}
 use Rattle.p9_first.specs.Form.{is_text_byte}
 use Rattle.p9_r3k.specs.declared.inst.Inst.{Inst}
-use Rattle.p9_r3k.specs.declared.halt.Ending.TheVariants.{Running}
+use Rattle.p9_base.specs.declared.halt.Ending.TheVariants.{Running}
 use Rattle.p9_r3k.specs.Machine.{State, run, exit_text}
 use Rattle.p9_r3k.proofs.Runs.{run-sum, run-zero}
 use Rattle.p9_vi.specs.Run.{IsExited}

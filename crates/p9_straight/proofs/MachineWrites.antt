@@ -2,11 +2,12 @@
 use Rattle.std.proofs.Common.{◌≡◌, ℕ, ◌+◌, ◌-◌, ◌/◌, ◌%◌, ◌^◌, ◌<◌, ◌≤◌, inl, true, false, lit<, List, [], ◌∷◌, ◌++◌, length, take, drop, nat_le, refl, ap, ◌∙◌, arith}
 use Rattle.std.specs.Prelude.{if◌then◌else◌}
 use Rattle.std.proofs.lemmas.Bool.Decides.{nat_tests}
+use Rattle.p9_base.specs.declared.order.ByteOrder.TheVariants.{Big}
 use Rattle.p9_base.specs.Words.{is_negative}
 use Rattle.p9_r3k.specs.declared.inst.Inst.{Inst}
 use Rattle.p9_r3k.specs.declared.inst.Inst.TheVariants.{Addiu, Sw, Syscall}
-use Rattle.p9_r3k.specs.declared.halt.HaltCause.TheVariants.{BadAddress}
-use Rattle.p9_r3k.specs.declared.halt.Asked.TheVariants as asks
+use Rattle.p9_base.specs.declared.halt.HaltCause.TheVariants.{BadAddress}
+use Rattle.p9_base.specs.declared.halt.Asked.TheVariants as asks
 use Rattle.p9_r3k.specs.Memory.{Core, text_start, readable, word_in, with_word_in, bytes_from}
 use Rattle.p9_r3k.specs.Machine.{State, run, argument, then_one, asked_write, asked}
 use Rattle.p9_straight.specs.Code.{set_register, system_call}
@@ -17,12 +18,12 @@ use Rattle.p9_straight.proofs.MachineCalls.{argument_is, HasText, low_bytes_from
 
 -- the other two arguments are stored
 abbrev pub with_second : (stack : List ℕ) (at : ℕ) → List ℕ
-with_second stack at = with_word_in (with_first stack 1) 0xFFFFF8 at
+with_second stack at = with_word_in Big (with_first stack 1) 0xFFFFF8 at
 
 abbrev pub with_third : (stack : List ℕ) (at count : ℕ) → List ℕ
-with_third stack at count = with_word_in (with_second stack at) 0xFFFFFC count
+with_third stack at count = with_word_in Big (with_second stack at) 0xFFFFFC count
 
-word_size : (bytes : List ℕ) (i v : ℕ) → length (with_word_in bytes i v) ≡ length bytes
+word_size : (bytes : List ℕ) (i v : ℕ) → length (with_word_in Big bytes i v) ≡ length bytes
 word_size bytes i v = length-four bytes i (v / 2 ^ 24 % 2 ^ 8) (v / 2 ^ 16 % 2 ^ 8) (v / 2 ^ 8 % 2 ^ 8) (v % 2 ^ 8)
 
 pub third_size : (stack : List ℕ) (at count : ℕ) → IsStack stack → IsStack (with_third stack at count)
@@ -35,18 +36,18 @@ second_size stack at size = word_size (with_first stack 1) 0xFFFFF8 at ∙ (word
 first_size : (stack : List ℕ) → IsStack stack → IsStack (with_first stack 1)
 first_size stack size = word_size stack 0xFFFFF4 1 ∙ size
 
-first_read : (stack : List ℕ) (at count : ℕ) → IsStack stack → word_in (with_third stack at count) 0xFFFFF4 ≡ 1
+first_read : (stack : List ℕ) (at count : ℕ) → IsStack stack → word_in Big (with_third stack at count) 0xFFFFF4 ≡ 1
 first_read stack at count size =
     word_apart (with_second stack at) 0xFFFFF4 0xFFFFFC count (inl (omega arith))
     ∙ (word_apart (with_first stack 1) 0xFFFFF4 0xFFFFF8 at (inl (omega arith))
     ∙ word_stored stack 0xFFFFF4 1 (omega (arith, size)) (omega arith))
 
-second_read : (stack : List ℕ) (at count : ℕ) → IsStack stack → at < 2 ^ 32 → word_in (with_third stack at count) 0xFFFFF8 ≡ at
+second_read : (stack : List ℕ) (at count : ℕ) → IsStack stack → at < 2 ^ 32 → word_in Big (with_third stack at count) 0xFFFFF8 ≡ at
 second_read stack at count size small =
     word_apart (with_second stack at) 0xFFFFF8 0xFFFFFC count (inl (omega arith))
     ∙ word_stored (with_first stack 1) 0xFFFFF8 at (omega (arith, first_size stack size)) small
 
-third_read : (stack : List ℕ) (at count : ℕ) → IsStack stack → count < 2 ^ 32 → word_in (with_third stack at count) 0xFFFFFC ≡ count
+third_read : (stack : List ℕ) (at count : ℕ) → IsStack stack → count < 2 ^ 32 → word_in Big (with_third stack at count) 0xFFFFFC ≡ count
 third_read stack at count size small = word_stored (with_second stack at) 0xFFFFFC count (omega (arith, second_size stack at size)) small
 
 -- the core at the call

@@ -18,8 +18,8 @@ use Rattle.p9_names.specs.declared.table.LinkFault.TheVariants as links
 use Rattle.p9_names.specs.Answers.{linked, Joins}
 use Rattle.p9_names.proofs.Exactness.{joined_exactly}
 use Rattle.p9_r3k.specs.Machine.{State, exit_text}
-use Rattle.p9_r3k.specs.declared.halt.Ending.{Ending}
-use Rattle.p9_r3k.specs.declared.halt.Ending.TheVariants as endings
+use Rattle.p9_base.specs.declared.halt.Ending.{Ending}
+use Rattle.p9_base.specs.declared.halt.Ending.TheVariants as endings
 use Rattle.p9_share.specs.Symbols.{module_of}
 use Rattle.p9_straight.specs.Headline.{KeepsMeaning, AreDefined, IsDefined}
 use Rattle.p9_vi.specs.Run.{IsExited, HasExited}

@@ -21,7 +21,7 @@ use Rattle.p9_suite.specs.Commands.{default_budget}
 use Rattle.p9_suite.specs.Suite.{doing, objects}
 use Rattle.p9_suite.specs.RunCommand.{ReadAll, IsProgram, HaveFault, IsUnbuilt, fault_answer, output_name, wrote, WriteCalls, RunDoes, BuildDoes, WriteDoes, StoreDid, StoreReads, StoreReadsOne, StoreStopsAt, StoreStops}
 use Rattle.p9_suite.specs.ViCommand.{read_file, IsExecutable, FileCalls, FileDoes, ViTells}
-use Rattle.p9_vi.specs.Stops.{Told}
+use Rattle.p9_base.specs.Streams.{Told}
 
 -- One file
 

@@ -5,7 +5,7 @@ use Rattle.p9_base.specs.Calls.{StreamCall, Call, OnStream, OnFiles, Objects, Do
 use Rattle.p9_r3k.specs.Machine.{state}
 use Rattle.p9_form.specs.declared.file.File.{File}
 use Rattle.p9_form.specs.Items.{source_of}
-use Rattle.p9_vi.specs.Tied.{IsSteady, brought_in, written_in}
+use Rattle.p9_base.specs.CallBytes.{IsSteady, brought_in, written_in}
 use Rattle.p9_suite.specs.declared.answer.Answer.{Answer}
 use Rattle.p9_suite.specs.declared.answer.Answer.TheVariants.{Ended, Usage, Twice, NoMain, MainType, Unresolved, Disagree, Absent, ReadFault, WriteFault, StoreFault, Memory, Halted, Spent, BadMagic, ShortFile, BadSegment, NotBuilt}
 use Rattle.p9_suite.specs.Answers.{status, message}

@@ -4,14 +4,15 @@ use Rattle.p9_base.specs.Outside.{TakeCall, PutCall}
 use Rattle.p9_base.specs.Calls.{StreamCall, StreamsDid, StreamsFine, StreamsEnd, Failing, Input, Out}
 use Rattle.p9_aout.specs.Image.{ImageParts, image_of}
 use Rattle.p9_r3k.specs.Memory.{Core}
-use Rattle.p9_r3k.specs.declared.halt.Ending.{Ending}
-use Rattle.p9_r3k.specs.declared.halt.Ending.TheVariants as endings
+use Rattle.p9_base.specs.declared.halt.Ending.{Ending}
+use Rattle.p9_base.specs.declared.halt.Ending.TheVariants as endings
 use Rattle.p9_r3k.specs.Machine.{State, state, run}
 use Rattle.p9_r3k.specs.Laws.{HasEnded}
 use Rattle.p9_r3k.proofs.Runs.{run-sum, run-ended}
 use Rattle.p9_vi.specs.Run.{vrun, start_of, IsExited}
 use Rattle.p9_vi.specs.Stops.{StandsAt, stop_failure}
-use Rattle.p9_vi.specs.Tied.{Ties, Goes, IsSteady, IsRunOn, StopCount, calls_of, steps_of, brought_in, written_in}
+use Rattle.p9_base.specs.CallBytes.{IsSteady, calls_of, steps_of, brought_in, written_in}
+use Rattle.p9_vi.specs.Tied.{Ties, Goes, IsRunOn, StopCount}
 use Rattle.p9_vi.specs.declared.stop.Stop.{Stop}
 use Rattle.p9_vi.specs.declared.stop.Stop.TheVariants as stops
 use Rattle.p9_vi.proofs.Whole.{goes_whole}

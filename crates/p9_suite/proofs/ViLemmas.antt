@@ -9,17 +9,18 @@ use Rattle.p9_aout.specs.declared.format.AoutFault.{AoutFault}
 use Rattle.p9_aout.specs.declared.format.AoutFault.TheVariants as fault
 use Rattle.p9_r3k.specs.Memory.{Core, bytes_from}
 use Rattle.p9_r3k.specs.declared.inst.Inst.{Inst}
-use Rattle.p9_r3k.specs.declared.halt.HaltCause.{HaltCause}
-use Rattle.p9_r3k.specs.declared.halt.Ending.{Ending}
-use Rattle.p9_r3k.specs.declared.halt.Ending.TheVariants as endings
-use Rattle.p9_r3k.specs.declared.halt.Effect.{Effect}
-use Rattle.p9_r3k.specs.declared.halt.Effect.TheVariants as effects
-use Rattle.p9_r3k.specs.declared.halt.Asked.{Asked}
-use Rattle.p9_r3k.specs.declared.halt.Asked.TheVariants as asks
+use Rattle.p9_base.specs.declared.halt.HaltCause.{HaltCause}
+use Rattle.p9_base.specs.declared.halt.Ending.{Ending}
+use Rattle.p9_base.specs.declared.halt.Ending.TheVariants as endings
+use Rattle.p9_base.specs.declared.halt.Effect.{Effect}
+use Rattle.p9_base.specs.declared.halt.Effect.TheVariants as effects
+use Rattle.p9_base.specs.declared.halt.Asked.{Asked}
+use Rattle.p9_base.specs.declared.halt.Asked.TheVariants as asks
 use Rattle.p9_r3k.specs.Effects.{effect_of, reads_pair}
 use Rattle.p9_r3k.specs.Machine.{State, state, asked, fetched, called, acted, executed, going, step, run}
 use Rattle.p9_vi.specs.Run.{vrun, start_of, started}
-use Rattle.p9_vi.specs.Stops.{Runs, RunsWhole, Told, stop_of}
+use Rattle.p9_base.specs.Streams.{Told}
+use Rattle.p9_vi.specs.Stops.{Runs, RunsWhole, stop_of}
 use Rattle.p9_vi.specs.declared.stop.Stop.{Stop}
 use Rattle.p9_vi.specs.declared.stop.Stop.TheVariants as stops
 use Rattle.p9_suite.specs.declared.answer.Answer.{Answer}

@@ -2,8 +2,8 @@
 use Rattle.std.specs.Prelude.{ℕ, List, [], ◌∷◌, ◌++◌, codes, decimal}
 use Rattle.std.specs.Int.{w32, to_be_bytes}
 use Rattle.hex.specs.Hex.{encode_lower}
-use Rattle.p9_r3k.specs.declared.halt.HaltCause.{HaltCause}
-use Rattle.p9_r3k.specs.declared.halt.HaltCause.TheVariants as halts
+use Rattle.p9_base.specs.declared.halt.HaltCause.{HaltCause}
+use Rattle.p9_base.specs.declared.halt.HaltCause.TheVariants as halts
 use Rattle.p9_suite.specs.declared.answer.Answer.{Answer}
 use Rattle.p9_suite.specs.declared.answer.Answer.TheVariants.{Ended, Usage, Twice, NoMain, MainType, Unresolved, Disagree, Absent, ReadFault, WriteFault, StoreFault, Memory, Halted, Spent, BadMagic, ShortFile, BadSegment, NotBuilt}
 

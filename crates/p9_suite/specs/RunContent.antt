@@ -15,7 +15,7 @@ use Rattle.p9_names.specs.Answers.{linked, Joins}
 use Rattle.p9_share.specs.Symbols.{module_of}
 use Rattle.p9_straight.specs.Headline.{KeepsMeaning, AreDefined}
 use Rattle.p9_vi.specs.Run.{HasExited, IsRunning}
-use Rattle.p9_vi.specs.Stops.{Told}
+use Rattle.p9_base.specs.Streams.{Told}
 use Rattle.p9_suite.specs.declared.answer.Answer.{Answer}
 use Rattle.p9_suite.specs.declared.answer.Answer.TheVariants.{Ended, Usage, Twice, NoMain, MainType, Unresolved, Disagree, Absent, ReadFault, WriteFault, StoreFault, Memory, Halted, Spent, BadMagic, ShortFile, BadSegment, NotBuilt}
 use Rattle.p9_suite.specs.Answers.{status, message}

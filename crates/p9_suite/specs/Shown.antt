@@ -8,7 +8,7 @@ use Rattle.p9_first.specs.CRun.{source_run, crun}
 use Rattle.p9_form.specs.declared.file.File.{File}
 use Rattle.p9_form.specs.Items.{source_of}
 use Rattle.p9_straight.specs.Headline.{KeepsMeaning, AreDefined}
-use Rattle.p9_vi.specs.Tied.{IsSteady, brought_in, written_in}
+use Rattle.p9_base.specs.CallBytes.{IsSteady, brought_in, written_in}
 use Rattle.p9_suite.specs.declared.answer.Answer.{Answer}
 use Rattle.p9_suite.specs.declared.answer.Answer.TheVariants.{Ended}
 use Rattle.p9_suite.specs.Answers.{status, message}

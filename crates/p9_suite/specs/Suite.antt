@@ -2,7 +2,7 @@
 use Rattle.std.specs.Prelude.{◌≡◌, ◌≢◌, ◌↔◌, ◌⊎◌, ℕ, List, Option, Some, None, IfSome, IsSomeAnd, if◌then◌else◌, ◌==◌}
 use Rattle.p9_base.specs.Outside.{Held, Rose, OthersAsBefore, TakeCall, PutCall, FileCall}
 use Rattle.p9_base.specs.Calls.{Call, Failing, Input, Out, Store, Objects, Doing, Did, CallsEnd}
-use Rattle.p9_vi.specs.Stops.{Told}
+use Rattle.p9_base.specs.Streams.{Told}
 use Rattle.p9_suite.specs.declared.answer.Answer.{Answer}
 use Rattle.p9_suite.specs.declared.answer.Answer.TheVariants.{Usage}
 use Rattle.p9_suite.specs.Commands.{Command, Run, Vi, command_of}

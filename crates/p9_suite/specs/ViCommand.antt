@@ -8,11 +8,12 @@ use Rattle.p9_aout.specs.declared.format.AoutFault.{AoutFault}
 use Rattle.p9_aout.specs.declared.format.AoutFault.TheVariants as fault
 use Rattle.p9_r3k.specs.Memory.{Core}
 use Rattle.p9_r3k.specs.Machine.{State, state, exit_text}
-use Rattle.p9_r3k.specs.declared.halt.Ending.{Ending}
-use Rattle.p9_r3k.specs.declared.halt.Ending.TheVariants as endings
+use Rattle.p9_base.specs.declared.halt.Ending.{Ending}
+use Rattle.p9_base.specs.declared.halt.Ending.TheVariants as endings
 use Rattle.p9_vi.specs.Run.{vrun, start_of}
 use Rattle.p9_vi.specs.Stops.{RunsToRead, RunsToWrite}
-use Rattle.p9_vi.specs.Tied.{Stretch, calls_of, steps_of, Goes, Fails, IsSteady, brought_in, written_in}
+use Rattle.p9_base.specs.CallBytes.{Stretch, calls_of, steps_of, IsSteady, brought_in, written_in}
+use Rattle.p9_vi.specs.Tied.{Goes, Fails}
 use Rattle.p9_vi.specs.declared.stop.Stop.{Stop}
 use Rattle.p9_vi.specs.declared.stop.Stop.TheVariants as stops
 use Rattle.p9_suite.specs.declared.answer.Answer.{Answer}

@@ -3,7 +3,7 @@ ghost use Rattle.std.specs.Prelude.{◌≡◌, ◌≤◌, List, ℕ, Some, lengt
 ghost use Rattle.p9_first.specs.Form.{IsFile};
 ghost use Rattle.p9_form.specs.Items.{items_of};
 ghost use Rattle.p9_form.specs.Sharing.{IsSmall};
-ghost use Rattle.p9_vi.specs.Stops.{Told};
+ghost use Rattle.p9_base.specs.Streams.{Told};
 ghost use Rattle.p9_suite.specs.RunCommand.{BuildDoes, IsProgram, IsUnbuilt, RunDoes, WriteDoes, fault_answer, output_name};
 ghost use Rattle.p9_suite.specs.RunContent.{TellsRun};
 ghost use Rattle.p9_suite.specs.Suite.{doing, objects};

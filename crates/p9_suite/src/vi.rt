@@ -3,7 +3,8 @@ ghost use Rattle.std.specs.Prelude.{◌≡◌, ◌⊎◌, List, ℕ, Option, Som
 ghost use Rattle.p9_base.specs.Outside.{Held};
 ghost use Rattle.p9_aout.specs.Image.{ImageParts, image_of};
 ghost use Rattle.p9_vi.specs.Run.{start_of};
-ghost use Rattle.p9_vi.specs.Stops.{StandsAt, Told};
+ghost use Rattle.p9_base.specs.Streams.{Told};
+ghost use Rattle.p9_vi.specs.Stops.{StandsAt};
 ghost use Rattle.p9_suite.specs.Suite.{doing, objects};
 ghost use Rattle.p9_suite.specs.ViCommand.{FileDoes, ViDoes, ViTells, stop_answer};
 

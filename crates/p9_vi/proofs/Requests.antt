@@ -1,13 +1,13 @@
 -- What each system call leaves.
 use Rattle.std.proofs.Common.{ℕ, ◌≡◌, List, ◌++◌, length, take, drop, min, Option, true, false, refl, subst}
-use Rattle.p9_r3k.specs.declared.halt.Asked.{Asked}
-use Rattle.p9_r3k.specs.declared.halt.Asked.TheVariants as asks
-use Rattle.p9_r3k.specs.declared.halt.HaltCause.{HaltCause}
-use Rattle.p9_r3k.specs.declared.halt.Ending.TheVariants.{Exited}
+use Rattle.p9_base.specs.declared.halt.Asked.{Asked}
+use Rattle.p9_base.specs.declared.halt.Asked.TheVariants as asks
+use Rattle.p9_base.specs.declared.halt.HaltCause.{HaltCause}
+use Rattle.p9_base.specs.declared.halt.Ending.TheVariants.{Exited}
 use Rattle.p9_r3k.specs.Memory.{Core, with_bytes, bytes_from}
 use Rattle.p9_r3k.specs.Machine.{state, called, answered, advanced, halted}
 use Rattle.p9_vi.specs.declared.stop.Stepped.TheVariants.{Done, ReadFault, WriteFault}
-use Rattle.p9_vi.specs.Stops.{Told}
+use Rattle.p9_base.specs.Streams.{Told}
 use Rattle.p9_vi.specs.Steps.{Reads, PutsPiece, Calls}
 
 pub read_done : (at size n : ℕ) (l s : List ℕ) (request : Asked) (old new : Core) → request ≡ asks.Read at size →

@@ -1,12 +1,12 @@
 -- Steps and runs.
 use Rattle.std.proofs.Common.{ℕ, zero, suc, ◌+◌, ◌-◌, ◌≡◌, ◌≤◌, ◌<◌, List, Option, refl, sym, subst, ◌∙◌, ap, Bool, true, false, Result, Ok, Err, arith}
 use Rattle.p9_r3k.specs.declared.inst.Inst.{Inst}
-use Rattle.p9_r3k.specs.declared.halt.Asked.{Asked}
-use Rattle.p9_r3k.specs.declared.halt.HaltCause.{HaltCause}
-use Rattle.p9_r3k.specs.declared.halt.Ending.{Ending}
-use Rattle.p9_r3k.specs.declared.halt.Ending.TheVariants.{Running, Exited, Halted}
-use Rattle.p9_r3k.specs.declared.halt.Effect.{Effect}
-use Rattle.p9_r3k.specs.declared.halt.Effect.TheVariants.{Write, Pair, Load, StoreByte, StoreHalf, StoreWord, Branch, JumpTo, Call, Stop}
+use Rattle.p9_base.specs.declared.halt.Asked.{Asked}
+use Rattle.p9_base.specs.declared.halt.HaltCause.{HaltCause}
+use Rattle.p9_base.specs.declared.halt.Ending.{Ending}
+use Rattle.p9_base.specs.declared.halt.Ending.TheVariants.{Running, Exited, Halted}
+use Rattle.p9_base.specs.declared.halt.Effect.{Effect}
+use Rattle.p9_base.specs.declared.halt.Effect.TheVariants.{Write, Pair, Load, StoreByte, StoreHalf, StoreWord, Branch, JumpTo, Call, Stop}
 use Rattle.p9_r3k.specs.Memory.{Core}
 use Rattle.p9_r3k.specs.Effects.{effect_of, reads_pair}
 use Rattle.p9_r3k.specs.Machine.{State, state, step, run, going, executed, acted, called, asked, fetched, applied, halted}
@@ -14,7 +14,8 @@ use Rattle.p9_r3k.proofs.Runs.{run-sum}
 use Rattle.p9_vi.specs.declared.stop.Stop.{Stop as Stopped}
 use Rattle.p9_vi.specs.declared.stop.Stepped.{Stepped}
 use Rattle.p9_vi.specs.declared.stop.Stepped.TheVariants.{Done, ReadFault, WriteFault}
-use Rattle.p9_vi.specs.Stops.{IsAtCall, ReadFails, WriteFails, RunsToRead, RunsToWrite, Runs, Told, stop_of}
+use Rattle.p9_base.specs.Streams.{Told}
+use Rattle.p9_vi.specs.Stops.{IsAtCall, ReadFails, WriteFails, RunsToRead, RunsToWrite, Runs, stop_of}
 use Rattle.p9_vi.specs.Steps.{Calls, CallKeeps, Steps, StepStands, Plain, PlainRun}
 
 -- One step

@@ -5,20 +5,21 @@ use Rattle.std.proofs.Math.Nat.{eq-or-lt_of_le}
 use Rattle.p9_base.specs.Outside.{TakeCall, PutCall}
 use Rattle.p9_base.specs.Calls.{StreamCall, OnInput, OnOut, Failing, Input, Out, StreamsDid, StreamsEnd}
 use Rattle.p9_base.proofs.CallLemmas.{StreamsDid-append}
-use Rattle.p9_r3k.specs.declared.halt.Asked.{Asked}
-use Rattle.p9_r3k.specs.declared.halt.Asked.TheVariants as asks
-use Rattle.p9_r3k.specs.declared.halt.HaltCause.{HaltCause}
-use Rattle.p9_r3k.specs.declared.halt.Ending.{Ending}
-use Rattle.p9_r3k.specs.declared.halt.Ending.TheVariants.{Running, Exited, Halted}
+use Rattle.p9_base.specs.declared.halt.Asked.{Asked}
+use Rattle.p9_base.specs.declared.halt.Asked.TheVariants as asks
+use Rattle.p9_base.specs.declared.halt.HaltCause.{HaltCause}
+use Rattle.p9_base.specs.declared.halt.Ending.{Ending}
+use Rattle.p9_base.specs.declared.halt.Ending.TheVariants.{Running, Exited, Halted}
 use Rattle.p9_r3k.specs.Memory.{Core, with_bytes, bytes_from, text_start, stack_start}
 use Rattle.p9_r3k.specs.Machine.{State, state, step, run, called, answered, advanced, halted}
 use Rattle.p9_vi.specs.declared.stop.Stop.{Stop}
 use Rattle.p9_vi.specs.declared.stop.Stepped.TheVariants.{Done, ReadFault, WriteFault}
 use Rattle.p9_vi.specs.Stops.{stop_of, stop_failure}
 use Rattle.p9_vi.specs.Steps.{Plain, PlainRun}
-use Rattle.p9_vi.specs.Tied.{Stretch, Going, Reading, calls_of, steps_of, brought, filled_by, rest_after, written, DoesRead, Goes, Ties, AtRequest, StepCount, StopCount}
-use Rattle.p9_vi.specs.Pieces.{Brings, AnswerIs, MemoryIs, WritesPiece}
-use Rattle.p9_vi.proofs.CallLists.{did_takes, did_puts, end_append}
+use Rattle.p9_base.specs.CallBytes.{Stretch, Going, Reading, calls_of, steps_of, brought, filled_by, rest_after, written}
+use Rattle.p9_vi.specs.Tied.{DoesRead, Goes, Ties, AtRequest, StepCount, StopCount}
+use Rattle.p9_base.specs.Pieces.{Brings, AnswerIs, MemoryIs, WritesPiece}
+use Rattle.p9_base.proofs.CallLists.{did_takes, did_puts, end_append}
 use Rattle.p9_vi.proofs.Requests.{read_done, write_done}
 use Rattle.p9_vi.proofs.Stepping.{step_calls, plain_none, plain_more}
 

@@ -6,7 +6,8 @@ use Rattle.p9_base.specs.Calls.{StreamCall, OnInput, OnOut, Failing, StreamsDid,
 use Rattle.p9_r3k.specs.Memory.{Core}
 use Rattle.p9_r3k.specs.Machine.{State, state, step, run}
 use Rattle.p9_r3k.proofs.Runs.{run-sum}
-use Rattle.p9_vi.specs.Tied.{Stretch, Going, Reading, calls_of, steps_of, brought, brought_by, written, written_by, brought_in, written_in, KeepRests, FoundEnd, IsSteady, Goes, Fails, Ties, IsRunOn}
+use Rattle.p9_base.specs.CallBytes.{Stretch, Going, Reading, calls_of, steps_of, brought, brought_by, written, written_by, brought_in, written_in, KeepRests, FoundEnd, IsSteady}
+use Rattle.p9_vi.specs.Tied.{Goes, Fails, Ties, IsRunOn}
 
 -- Lists of calls
 

@@ -1,7 +1,5 @@
-pub mod Streams
 pub mod Run
 pub mod Stops
 pub mod Kept
 pub mod Steps
-pub mod Pieces
 pub mod Tied

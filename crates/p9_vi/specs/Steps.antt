@@ -2,24 +2,15 @@
 use Rattle.std.specs.Prelude.{◌≡◌, ◌<◌, ◌≤◌, ℕ, min, List, ◌++◌, length, take, drop, Option, Some, None, IfSome, Bool, true, false}
 use Rattle.p9_base.specs.Outside.{Rose}
 use Rattle.p9_base.specs.Calls.{Failing, Input, Out}
-use Rattle.p9_r3k.specs.declared.halt.Asked.{Asked}
-use Rattle.p9_r3k.specs.declared.halt.Asked.TheVariants as asks
+use Rattle.p9_base.specs.declared.halt.Asked.{Asked}
+use Rattle.p9_base.specs.declared.halt.Asked.TheVariants as asks
 use Rattle.p9_r3k.specs.Memory.{Core, bytes_from, over, with_bytes}
 use Rattle.p9_r3k.specs.Machine.{state, step, run, asked, called, answered}
 use Rattle.p9_vi.specs.declared.stop.Stepped.{Stepped}
 use Rattle.p9_vi.specs.declared.stop.Stepped.TheVariants.{Done, ReadFault, WriteFault}
 use Rattle.p9_vi.specs.Stops.{IsAtCall, ReadFails, WriteFails, IsBeforeRead, IsBeforeWrite}
 
--- A room in a list of bytes, and in memory
-
-abbrev pub FillsPart : (left later : Option (List ℕ)) (bytes new : List ℕ) (i size : ℕ) → Option ℕ → Type 0
-FillsPart left later bytes new i size (Some n) =
-    IfSome left (λ l. (n ≡ min size (length l)) × (later ≡ Some (drop n l)) × (new ≡ over bytes i (take n l)))
-FillsPart left later bytes new i size None =
-    IfSome left (λ l. (n : ℕ) × (n < size) × (n ≤ length l) × (later ≡ Some (drop n l)) × (new ≡ over bytes i (take n l)))
-
-abbrev pub PartChanges : (bytes new : List ℕ) (i size : ℕ) → Type 0
-PartChanges bytes new i size = (xs : List ℕ) × (length xs ≡ size) × (new ≡ over bytes i xs)
+-- A room in memory
 
 abbrev pub FillsRoom : (left later : Option (List ℕ)) (old new : Core) (at size : ℕ) → Option ℕ → Type 0
 FillsRoom left later old new at size (Some n) =

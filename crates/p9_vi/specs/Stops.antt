@@ -3,11 +3,11 @@ use Rattle.std.specs.Prelude.{◌≡◌, ◌<◌, ◌≤◌, ℕ, List, ◌++◌
 use Rattle.p9_base.specs.Outside.{Rose}
 use Rattle.p9_base.specs.Calls.{Failing, Input, Out}
 use Rattle.p9_r3k.specs.declared.inst.Inst.{Inst}
-use Rattle.p9_r3k.specs.declared.halt.Effect.TheVariants.{Call}
-use Rattle.p9_r3k.specs.declared.halt.Ending.{Ending}
-use Rattle.p9_r3k.specs.declared.halt.Ending.TheVariants.{Running, Exited, Halted}
-use Rattle.p9_r3k.specs.declared.halt.Asked.{Asked}
-use Rattle.p9_r3k.specs.declared.halt.Asked.TheVariants as asks
+use Rattle.p9_base.specs.declared.halt.Effect.TheVariants.{Call}
+use Rattle.p9_base.specs.declared.halt.Ending.{Ending}
+use Rattle.p9_base.specs.declared.halt.Ending.TheVariants.{Running, Exited, Halted}
+use Rattle.p9_base.specs.declared.halt.Asked.{Asked}
+use Rattle.p9_base.specs.declared.halt.Asked.TheVariants as asks
 use Rattle.p9_r3k.specs.Memory.{Core, bytes_from, with_bytes}
 use Rattle.p9_r3k.specs.Effects.{effect_of}
 use Rattle.p9_r3k.specs.Machine.{state, run, fetched, asked}
@@ -78,12 +78,6 @@ Runs stops.Budget n old new left out later now = RunsWhole stops.Budget n old ne
 Runs (stops.Halt cause pc) n old new left out later now = RunsWhole (stops.Halt cause pc) n old new left out later now
 Runs stops.ReadFault n old new left out later now = RunsToRead n old new left out later now
 Runs stops.WriteFault n old new left out later now = RunsToWrite n old new left out later now
-
--- where the source tells what is left and the sink what it has, both tell it afterwards, and it is so
-abbrev pub Told : (Changes : (l s l' s' : List ℕ) → Type 0) (left later out now : Option (List ℕ)) → Type 0
-Told Changes left later out now =
-    (l s : List ℕ) → left ≡ Some l → out ≡ Some s →
-    (l' s' : List ℕ) × (later ≡ Some l') × (now ≡ Some s') × Changes l s l' s'
 
 -- the machine stands before a read, but for bytes in its room
 pub record IsBeforeRead (core : Core) : Type 0 where

@@ -6,7 +6,6 @@ mod machine;
 mod operations;
 mod simulation;
 mod stop;
-mod streams;
 
 pub use machine::Machine;
 pub use simulation::simulate;

@@ -54,12 +54,14 @@ pub struct Machine {
 
 impl Model for Machine {
     ghost use Rattle.std.specs.Prelude.{◌≡◌, ◌+◌, ◌%◌, ◌^◌, ◌<◌, ◌≤◌, length};
+    ghost use Rattle.p9_base.specs.declared.order.ByteOrder.TheVariants.{Big};
     ghost use Rattle.p9_r3k.specs.Memory.{Core, text_start, stack_start};
     ghost use Rattle.p9_vi.specs.Kept.{ExitFits};
 
     ghost Value = { Core };
 
     ghost view = { λ m. record {
+      order = Big;
       regs = m.regs;
       hi = m.hi;
       lo = m.lo;

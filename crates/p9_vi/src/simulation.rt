@@ -1,6 +1,7 @@
 // The simulation of many instructions.
-ghost use Rattle.p9_vi.specs.Streams.{StreamsRan};
-ghost use Rattle.p9_vi.specs.Stops.{Runs, Told, StandsAt, StopCause, stop_failure};
+ghost use Rattle.p9_base.specs.Streams.{StreamsRan};
+ghost use Rattle.p9_base.specs.Streams.{Told};
+ghost use Rattle.p9_vi.specs.Stops.{Runs, StandsAt, StopCause, stop_failure};
 ghost use Rattle.p9_vi.specs.Tied.{Ties, StopCount};
 
 use crate::machine::Machine;

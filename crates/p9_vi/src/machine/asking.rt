@@ -1,7 +1,7 @@
 // What a system call asks for.
 ghost use Rattle.std.specs.Prelude.{◌≡◌, ◌<◌, ◌==◌, ℕ, IfSome, length, position};
 ghost use Rattle.p9_r3k.specs.Machine.{argument, then_three, asked_exits, asked_read, asked_write, asked};
-ghost use Rattle.p9_r3k.specs.declared.halt.Asked.{Asked};
+ghost use Rattle.p9_base.specs.declared.halt.Asked.{Asked};
 ghost use Rattle.p9_vi.specs.Kept.{CanAsk, with_words};
 
 use crate::machine::Machine;

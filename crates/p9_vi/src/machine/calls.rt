@@ -2,18 +2,18 @@
 ghost use Rattle.std.specs.Prelude.{◌≡◌, ◌≤◌, if◌then◌else◌, IsTrue, ◌↔◌, IfSome};
 ghost use Rattle.p9_r3k.specs.Memory.{readable, writable, bytes_from};
 ghost use Rattle.p9_r3k.specs.Machine.{answered};
-ghost use Rattle.p9_vi.specs.Streams.{FillCause, PutsCause, TakesRan, PutsRan, StreamsRan, fill_failure, puts_failure};
-ghost use Rattle.p9_vi.specs.Stops.{Told, stop_of};
+ghost use Rattle.p9_base.specs.Streams.{FillCause, PutsCause, TakesRan, PutsRan, StreamsRan, fill_failure, puts_failure};
+ghost use Rattle.p9_base.specs.Streams.{Told};
+ghost use Rattle.p9_vi.specs.Stops.{stop_of};
 ghost use Rattle.p9_vi.specs.Steps.{FillsRoom, RoomChanges, Reads, ReadKeeps, read_failure, PutsPiece, Calls, CallKeeps, StepCause, step_failure, Steps, StepStands};
-ghost use Rattle.p9_vi.specs.Pieces.{Brings, ReadBrings, MemoryIs, WritesPiece};
+ghost use Rattle.p9_base.specs.Pieces.{Brings, ReadBrings, MemoryIs, WritesPiece};
 ghost use Rattle.p9_vi.specs.Tied.{AtRequest, Ties, StepCount};
 ghost use Rattle.p9_vi.specs.Kept.{CanAsk};
 
 use crate::hazards::reads_pair;
 use crate::machine::{Machine, STACK_START, TEXT_START};
 use crate::stop::{Stepped, Stop};
-use crate::streams::{fill_at, put_all};
-use p9_base::{Sink, Source};
+use p9_base::{Sink, Source, fill_at, put_all};
 use p9_r3k::{Asked, Effect, Ending};
 
 impl Machine {

@@ -1,6 +1,7 @@
 // Registers and memory by address.
 ghost use Rattle.std.specs.Prelude.{◌≡◌, ◌<◌, ◌≤◌, ◌+◌, ◌^◌, length};
 ghost use Rattle.p9_base.specs.Numbers.{word_at};
+ghost use Rattle.p9_base.specs.declared.order.ByteOrder.TheVariants.{Big};
 ghost use Rattle.p9_r3k.specs.Memory.{reg, with_reg, readable, writable, half_in, with_half_in, with_word_in, read_byte, read_half, read_word, with_byte, with_half, with_word, bytes_from};
 
 use crate::machine::{Machine, STACK_END, STACK_START, TEXT_START};
@@ -159,14 +160,14 @@ impl Machine {
 
 fn half_in(bytes: &[u8], i: usize) -> u32
     requires { i + 2 ≤ length bytes.now }
-    ensures { result ≡ half_in bytes.now i }
+    ensures { result ≡ half_in Big bytes.now i }
 {
     u32::from(bytes[i]) * 0x100 + u32::from(bytes[i + 1])
 }
 
 fn set_half_in(bytes: &mut [u8], i: usize, half: u32)
     requires { i + 2 ≤ length bytes.old }
-    ensures { bytes.new ≡ with_half_in bytes.old i half }
+    ensures { bytes.new ≡ with_half_in Big bytes.old i half }
 {
     bytes[i] = (half / 0x100 % 0x100) as u8;
     bytes[i + 1] = (half % 0x100) as u8;
@@ -174,7 +175,7 @@ fn set_half_in(bytes: &mut [u8], i: usize, half: u32)
 
 fn set_word_in(bytes: &mut [u8], i: usize, word: u32)
     requires { i + 4 ≤ length bytes.old }
-    ensures { bytes.new ≡ with_word_in bytes.old i word }
+    ensures { bytes.new ≡ with_word_in Big bytes.old i word }
 {
     bytes[i] = (word / 0x100_0000 % 0x100) as u8;
     bytes[i + 1] = (word / 0x1_0000 % 0x100) as u8;

@@ -1,6 +1,6 @@
 use Rattle.std.proofs.Common.{◌+◌, ◌∙◌, None, Some, refl, arith}
 use Rattle.p9_base.specs.Calls.{Input, Out}
-use Rattle.p9_vi.proofs.CallLists.{ran_none, ran_then}
+use Rattle.p9_base.proofs.CallLists.{ran_none, ran_then}
 use Rattle.p9_vi.proofs.Stepping.{runs_none, runs_more, runs_plain, whole_told, ended_told, read_fault_told, write_fault_told}
 use Rattle.p9_vi.proofs.Tying.{ties_none, ties_on, ties_more, ties_stop, ties_read_fault, ties_write_fault}
 use Rattle.p9_vi.proofs.simulation.simulate.Goals as goal

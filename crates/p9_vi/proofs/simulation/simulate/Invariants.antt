@@ -1,6 +1,6 @@
 use Rattle.std.proofs.Common.{◌≡◌, ◌≤◌, ◌-◌, None}
-use Rattle.p9_vi.specs.Streams.{StreamsRan}
-use Rattle.p9_vi.specs.Stops.{Told}
+use Rattle.p9_base.specs.Streams.{StreamsRan}
+use Rattle.p9_base.specs.Streams.{Told}
 use Rattle.p9_vi.specs.Tied.{Ties}
 use Rattle.p9_vi.proofs.Stepping.{RunsTo}
 use Rattle.p9_vi.proofs.simulation.simulate.Given as goal

@@ -1,6 +1,6 @@
 use Rattle.std.proofs.Common.{◌∙◌, None, Some, refl}
 use Rattle.p9_base.specs.Calls.{Input, Out}
-use Rattle.p9_vi.proofs.CallLists.{ran_takes, ran_puts}
+use Rattle.p9_base.proofs.CallLists.{ran_takes, ran_puts}
 use Rattle.p9_vi.proofs.Requests.{read_told, read_failed, write_told, write_failed, exits_told, refused_told, stop_told}
 use Rattle.p9_vi.proofs.Tying.{ties_exits, ties_read, ties_read_failed, ties_write, ties_write_failed, ties_refused, ties_stopped}
 use Rattle.p9_vi.proofs.machine.Machine.call.Goals as goal

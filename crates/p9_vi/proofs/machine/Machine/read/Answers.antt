@@ -1,4 +1,4 @@
-use Rattle.p9_vi.proofs.Bringing.{brings_none}
+use Rattle.p9_base.proofs.Bringing.{brings_none}
 use Rattle.p9_vi.proofs.machine.Machine.read.Goals as goal
 
 pub returns-then-count-eq0-clause-brings : goal.returns-then-count-eq0-clause-brings

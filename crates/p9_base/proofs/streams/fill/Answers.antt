@@ -1,10 +1,10 @@
 use Rattle.std.proofs.Common.{None, Some, refl, ◌∙◌, arith}
 use Rattle.p9_base.specs.Calls.{Input}
 use Rattle.p9_base.specs.Outside.{Take}
-use Rattle.p9_vi.proofs.Bringing.{filling_more, brings_full, brings_ended, brings_failed}
-use Rattle.p9_vi.proofs.CallLists.{takes_more}
-use Rattle.p9_vi.proofs.Pieces.{took_more, within_on}
-use Rattle.p9_vi.proofs.streams.fill.Goals as goal
+use Rattle.p9_base.proofs.Bringing.{filling_more, brings_full, brings_ended, brings_failed}
+use Rattle.p9_base.proofs.CallLists.{takes_more}
+use Rattle.p9_base.proofs.Pieces.{took_more, within_on}
+use Rattle.p9_base.proofs.streams.fill.Goals as goal
 
 pub loop-done-preserved : goal.loop-done-preserved
 loop-done-preserved g c = record {

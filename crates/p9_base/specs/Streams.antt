@@ -1,6 +1,7 @@
 -- Whole rooms and whole pieces, by as many takes and puts as they need, and the calls that these are.
 use Rattle.std.specs.Prelude.{◌≡◌, ◌<◌, ◌≤◌, ℕ, min, List, [], ◌∷◌, ◌++◌, length, take, drop, map, Option, Some, None, IfSome, Bool, true, false}
 use Rattle.p9_base.specs.Outside.{TakeCall, PutCall, Rose}
+use Rattle.p9_base.specs.Core.{over}
 use Rattle.p9_base.specs.Calls.{StreamCall, OnInput, OnOut, Failing, Input, Out, StreamsDid, StreamsEnd}
 
 -- Content
@@ -22,6 +23,23 @@ abbrev pub PutsAll : Option (List ℕ) → Option (List ℕ) → (piece : List �
 PutsAll sofar later piece true = IfSome sofar (λ bytes. later ≡ Some (bytes ++ piece))
 PutsAll sofar later piece false =
     IfSome sofar (λ bytes. (n : ℕ) × (n < length piece) × (later ≡ Some (bytes ++ take n piece)))
+
+-- the same of a part of a list of bytes, which has `size` bytes from i on
+
+abbrev pub FillsPart : (left later : Option (List ℕ)) (bytes new : List ℕ) (i size : ℕ) → Option ℕ → Type 0
+FillsPart left later bytes new i size (Some n) =
+    IfSome left (λ l. (n ≡ min size (length l)) × (later ≡ Some (drop n l)) × (new ≡ over bytes i (take n l)))
+FillsPart left later bytes new i size None =
+    IfSome left (λ l. (n : ℕ) × (n < size) × (n ≤ length l) × (later ≡ Some (drop n l)) × (new ≡ over bytes i (take n l)))
+
+abbrev pub PartChanges : (bytes new : List ℕ) (i size : ℕ) → Type 0
+PartChanges bytes new i size = (xs : List ℕ) × (length xs ≡ size) × (new ≡ over bytes i xs)
+
+-- where the source tells what is left and the sink what it has, both tell it afterwards, and it is so
+abbrev pub Told : (Changes : (l s l' s' : List ℕ) → Type 0) (left later out now : Option (List ℕ)) → Type 0
+Told Changes left later out now =
+    (l s : List ℕ) → left ≡ Some l → out ≡ Some s →
+    (l' s' : List ℕ) × (later ≡ Some l') × (now ≡ Some s') × Changes l s l' s'
 
 -- Counts
 

@@ -2,10 +2,10 @@
 use Rattle.std.specs.Prelude.{◌≡◌, ◌<◌, ℕ, List, ◌++◌, length, take, drop, map, Option, Some, None, Bool, true, false}
 use Rattle.p9_base.specs.Outside.{TakeCall, PutCall}
 use Rattle.p9_base.specs.Calls.{OnInput, OnOut, StreamsEnd}
-use Rattle.p9_r3k.specs.Memory.{Core, over, with_bytes}
-use Rattle.p9_r3k.specs.Machine.{answered}
-use Rattle.p9_vi.specs.Streams.{CallsDid, fill_failure, puts_failure}
-use Rattle.p9_vi.specs.Tied.{brought, filled_by, written, KeepRests, FoundEnd}
+use Rattle.p9_base.specs.Core.{Core, over, with_bytes}
+use Rattle.p9_base.specs.SystemCalls.{answered}
+use Rattle.p9_base.specs.Streams.{CallsDid, fill_failure, puts_failure}
+use Rattle.p9_base.specs.CallBytes.{brought, filled_by, written, KeepRests, FoundEnd}
 
 -- so many bytes came, of so many asked for; or a take failed before
 abbrev pub Came : (size : ℕ) → Option ℕ → List TakeCall → Type 0

@@ -1,7 +1,7 @@
 use Rattle.std.proofs.Common.{ℕ, ◌+◌, ◌-◌, ◌≡◌, arith}
-use Rattle.p9_vi.proofs.Bringing.{brings_part}
-use Rattle.p9_vi.proofs.Pieces.{fills_part}
-use Rattle.p9_vi.proofs.streams.fill_at.Goals as goal
+use Rattle.p9_base.proofs.Bringing.{brings_part}
+use Rattle.p9_base.proofs.Pieces.{fills_part}
+use Rattle.p9_base.proofs.streams.fill_at.Goals as goal
 
 pub returns-clause-fills : goal.returns-clause-fills
 returns-clause-fills g c =

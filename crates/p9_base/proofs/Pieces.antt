@@ -6,9 +6,9 @@ use Rattle.std.proofs.Math.ListN.{drop_of_length-le}
 use Rattle.p9_base.specs.Outside.{Takes, Puts}
 use Rattle.p9_base.specs.declared.outside.Took as took
 use Rattle.p9_base.specs.declared.outside.Put as put
-use Rattle.p9_r3k.specs.Memory.{over}
-use Rattle.p9_vi.specs.Streams.{HasTaken, Fills}
-use Rattle.p9_vi.specs.Steps.{FillsPart}
+use Rattle.p9_base.specs.Core.{over}
+use Rattle.p9_base.specs.Streams.{HasTaken, Fills}
+use Rattle.p9_base.specs.Streams.{FillsPart}
 use borrow.Rule.Slice.PartMut.{put_mid}
 
 pub take_on : (d n : ℕ) (bytes : List ℕ) → d ≤ length bytes → take d bytes ++ take n (drop d bytes) ≡ take (d + n) bytes

@@ -7,13 +7,13 @@ use Rattle.p9_base.specs.declared.outside.Took as took
 use Rattle.p9_base.specs.declared.outside.Put as put
 use Rattle.p9_base.specs.Outside.{TakeCall, Take, PutCall, PutPiece}
 use Rattle.p9_base.specs.Calls.{StreamCall, OnInput, OnOut, Failing, Input, Out, StreamsEnd, stream_failure}
-use Rattle.p9_r3k.specs.Memory.{Core, over, with_bytes, text_start, stack_start}
-use Rattle.p9_r3k.specs.Machine.{answered}
-use Rattle.p9_vi.specs.Streams.{CallsDid, fill_failure}
-use Rattle.p9_vi.specs.Tied.{brought, brought_by, rest_by, rest_after, filled_by, written, written_by, KeepRests, KeepsRest}
-use Rattle.p9_vi.specs.Pieces.{Came, Brings, RoomIs, PartIs, AnswerIs, WritesPiece}
-use Rattle.p9_vi.proofs.CallLists.{did_push, end_push}
-use Rattle.p9_vi.proofs.Pieces.{take_on, none_after, length_on, put_over}
+use Rattle.p9_base.specs.Core.{Core, over, with_bytes, text_start, stack_start}
+use Rattle.p9_base.specs.SystemCalls.{answered}
+use Rattle.p9_base.specs.Streams.{CallsDid, fill_failure}
+use Rattle.p9_base.specs.CallBytes.{brought, brought_by, rest_by, rest_after, filled_by, written, written_by, KeepRests, KeepsRest}
+use Rattle.p9_base.specs.Pieces.{Came, Brings, RoomIs, PartIs, AnswerIs, WritesPiece}
+use Rattle.p9_base.proofs.CallLists.{did_push, end_push}
+use Rattle.p9_base.proofs.Pieces.{take_on, none_after, length_on, put_over}
 use borrow.Rule.Slice.PartMut.{put_mid}
 
 -- Lists of takes and of puts

@@ -1,7 +1,7 @@
 use Rattle.std.proofs.Common.{length, ◌-◌, ◌≡◌, ◌≤◌, IfSome, None}
-use Rattle.p9_vi.specs.Streams.{HasTaken, TakesRan}
-use Rattle.p9_vi.proofs.Bringing.{Filling}
-use Rattle.p9_vi.proofs.streams.fill.Given as goal
+use Rattle.p9_base.specs.Streams.{HasTaken, TakesRan}
+use Rattle.p9_base.proofs.Bringing.{Filling}
+use Rattle.p9_base.proofs.streams.fill.Given as goal
 
 abbrev pub invariant-loop-done : goal.invariant-loop-done
 invariant-loop-done g l = record {

@@ -4,7 +4,7 @@ use Rattle.std.proofs.lemmas.List.{map-append, append_assoc}
 use Rattle.p9_base.specs.Outside.{TakeCall, PutCall}
 use Rattle.p9_base.specs.Calls.{StreamCall, OnInput, OnOut, Failing, StreamsDid, StreamsEnd, stream_failure}
 use Rattle.p9_base.proofs.CallLemmas.{StreamsFine-append, StreamsDid-append}
-use Rattle.p9_vi.specs.Streams.{CallsDid, TakesRan, PutsRan, StreamsRan}
+use Rattle.p9_base.specs.Streams.{CallsDid, TakesRan, PutsRan, StreamsRan}
 
 -- How a longer list ends
 

@@ -1,7 +1,7 @@
 use Rattle.std.proofs.Common.{length, ◌-◌, ◌≡◌, ◌≤◌, IfSome, Some, None, take, ◌++◌}
-use Rattle.p9_vi.specs.Streams.{PutsRan}
-use Rattle.p9_vi.proofs.Bringing.{Writing}
-use Rattle.p9_vi.proofs.streams.put_all.Given as goal
+use Rattle.p9_base.specs.Streams.{PutsRan}
+use Rattle.p9_base.proofs.Bringing.{Writing}
+use Rattle.p9_base.proofs.streams.put_all.Given as goal
 
 abbrev pub invariant-loop-done : goal.invariant-loop-done
 invariant-loop-done g l = record {

@@ -1,10 +1,10 @@
 // Whole rooms and whole pieces, by as many takes and puts as they need.
 ghost use Rattle.std.specs.Prelude.{◌≡◌, ◌<◌, ◌≤◌, ◌+◌, length, IfSome};
-ghost use Rattle.p9_vi.specs.Steps.{FillsPart, PartChanges};
-ghost use Rattle.p9_vi.specs.Streams.{Fills, FillCause, PutsAll, PutsCause, TakesRan, PutsRan, fill_failure, puts_failure};
-ghost use Rattle.p9_vi.specs.Pieces.{Brings, RoomIs, PartIs, WritesPiece};
+ghost use Rattle.p9_base.specs.Streams.{FillsPart, PartChanges};
+ghost use Rattle.p9_base.specs.Streams.{Fills, FillCause, PutsAll, PutsCause, TakesRan, PutsRan, fill_failure, puts_failure};
+ghost use Rattle.p9_base.specs.Pieces.{Brings, RoomIs, PartIs, WritesPiece};
 
-use p9_base::{Put, Sink, Source, Took};
+use crate::outside::{Put, Sink, Source, Took};
 
 /// Fills the room, unless the input ends before: how many bytes came, or none where a take failed.
 pub fn fill<I: Source>(input: &mut I, room: &mut [u8]) -> Option<usize>

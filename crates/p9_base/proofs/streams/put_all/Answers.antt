@@ -1,10 +1,10 @@
 use Rattle.std.proofs.Common.{None, Some, refl, ◌∙◌, arith}
 use Rattle.p9_base.specs.Calls.{Out}
 use Rattle.p9_base.specs.Outside.{PutPiece}
-use Rattle.p9_vi.proofs.Bringing.{writing_more, writes_all, writes_part}
-use Rattle.p9_vi.proofs.CallLists.{puts_more}
-use Rattle.p9_vi.proofs.Pieces.{put_more, within_piece}
-use Rattle.p9_vi.proofs.streams.put_all.Goals as goal
+use Rattle.p9_base.proofs.Bringing.{writing_more, writes_all, writes_part}
+use Rattle.p9_base.proofs.CallLists.{puts_more}
+use Rattle.p9_base.proofs.Pieces.{put_more, within_piece}
+use Rattle.p9_base.proofs.streams.put_all.Goals as goal
 
 pub loop-done-preserved : goal.loop-done-preserved
 loop-done-preserved g c = record {
