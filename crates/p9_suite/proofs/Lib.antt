@@ -1,12 +1,5 @@
 pub mod Puts
-pub mod ViLemmas
-pub mod ShownLemmas
-pub mod RunLemmas
-pub mod Ordered
-pub mod Contents
-pub mod Exited
-pub mod Shapes
-pub mod Once
-pub mod Causes
-pub mod RunShown
-pub mod SuiteLemmas
+pub mod StageLemmas
+pub mod Simulated
+pub mod Forms
+pub mod Programs
