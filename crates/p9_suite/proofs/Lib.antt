@@ -3,3 +3,13 @@ pub mod StageLemmas
 pub mod Simulated
 pub mod Forms
 pub mod Programs
+pub mod Telling
+pub mod Calls
+pub mod Cases
+pub mod Ran
+pub mod CommandWords
+pub mod Shapes
+pub mod Once
+pub mod Meaning
+pub mod Every
+pub mod Clauses

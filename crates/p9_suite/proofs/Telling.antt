@@ -29,8 +29,8 @@ front_of n l rest h = grind (arith, common_steps)
 back_of : (n : ℕ) (l rest : List ℕ) → n ≤ length l → drop n (take n l ++ rest) ≡ rest
 back_of n l rest h = grind (arith, common_steps)
 
-took : (call : TakeCall) (left later : Option (List ℕ)) (before now : ℕ) (l : List ℕ) → TakeMeans left before call later now → left ≡ Some l → (next : List ℕ) × (later ≡ Some next) × TookFrom call l next
-took (Take room filled (took.TheVariants.Got n)) left later before now l m e =
+took_from : (call : TakeCall) (left later : Option (List ℕ)) (before now : ℕ) (l : List ℕ) → TakeMeans left before call later now → left ≡ Some l → (next : List ℕ) × (later ≡ Some next) × TookFrom call l next
+took_from (Take room filled (took.TheVariants.Got n)) left later before now l m e =
     let t = if_some (λ bytes. (n ≤ length bytes) × (later ≡ Some (drop n bytes)) × (filled ≡ take n bytes ++ drop n room)) e m.0.2 in
     let front : take n filled ≡ take n l = ap (take n) t.2 ∙ front_of n l (drop n room) t.0 in (
       drop n l,
@@ -41,10 +41,10 @@ took (Take room filled (took.TheVariants.Got n)) left later before now l m e =
         stays = tt;
       },
     )
-took (Take room filled took.TheVariants.End) left later before now l m e =
+took_from (Take room filled took.TheVariants.End) left later before now l m e =
     let t = if_some (λ bytes. (bytes ≡ []) × (filled ≡ room)) e m.0.1 in
     (l, m.0.0 ∙ e, record { split = refl; kept = t.1; stays = t.0 })
-took (Take room filled took.TheVariants.Failed) left later before now l m e =
+took_from (Take room filled took.TheVariants.Failed) left later before now l m e =
     (l, m.0.0 ∙ e, record { split = refl; kept = if_some (λ _. filled ≡ room) e m.0.1; stays = tt })
 
 -- one put
@@ -70,7 +70,7 @@ module _ {I O : Type 0} (left : I → Option (List ℕ)) (input_faults : I → �
   pub told_input : (calls : List StreamCall) (i : I) (o : O) (j : I) (p : O) (l : List ℕ) → StreamsDid takes puts i o calls j p → left i ≡ Some l → Brought calls l (left j)
   told_input [] i o j p l d e = record { after = l; split = refl; steady = tt; left = ap left d.0 ∙ e }
   told_input (OnInput call ∷ calls) i o j p l (k, q, one, rest) e =
-      let t = took call (left i) (left k) (input_faults i) (input_faults k) l (of_takes i call k one.0) e in
+      let t = took_from call (left i) (left k) (input_faults i) (input_faults k) l (of_takes i call k one.0) e in
       let b : Brought calls t.0 (left j) = told_input calls k q j p t.0 rest t.1 in
       record {
         after = b.after;

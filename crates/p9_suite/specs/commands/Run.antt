@@ -1,22 +1,20 @@
 -- The command `run`: files are read in order and compiled, the executable is written, and then simulated.
 use Rattle.std.specs.Prelude.{◌≡◌, ◌≢◌, ◌⊎◌, ◌↔◌, ℕ, List, [], ◌∷◌, map, Option, Some, None, IfSome, IsSomeAnd, Result, Ok, Err}
+use Rattle.p9_agree.specs.Depth.{IsNotDeep}
 use Rattle.p9_base.specs.Calls.{Call}
 use Rattle.p9_base.specs.Outside.{FileCall, Held}
 use Rattle.p9_first.specs.CRun.{source_run}
-use Rattle.p9_first.specs.Modules.{Source}
-use Rattle.p9_first.specs.Turns.{Outcome, Ended, Out, Undefined, Deep}
 use Rattle.p9_form.specs.declared.file.File.{File}
 use Rattle.p9_form.specs.Items.{items_of, source_of}
 use Rattle.p9_form.specs.Sharing.{IsSmall}
 use Rattle.p9_form.specs.Spelling.{HasForm, HasNoForm}
-use Rattle.p9_headline.specs.declared.TheConstants.{DEFAULT_BUDGET}
 use Rattle.p9_headline.specs.Executable.{IsStripped}
-use Rattle.p9_headline.specs.Headline.{HasExited, KeepsMeaning}
+use Rattle.p9_headline.specs.Headline.{KeepsMeaning}
 use Rattle.p9_names.specs.Answers.{linked, Joins, IsRefusal}
 use Rattle.p9_names.specs.declared.table.LinkFault.{LinkFault}
 use Rattle.p9_names.specs.declared.table.LinkFault.TheVariants as links
 use Rattle.p9_share.specs.Symbols.{module_of}
-use Rattle.p9_straight.specs.Headline.{union_run}
+use Rattle.p9_straight.specs.Headline.{union_run, EndsInTime}
 use Rattle.p9_suite.specs.declared.answer.Answer.{Answer}
 use Rattle.p9_suite.specs.declared.answer.Answer.TheVariants.{Refused}
 use Rattle.p9_suite.specs.declared.answer.Refusal.{Refusal}
@@ -48,25 +46,15 @@ ReadsForms (name ∷ names) = Then (ReadsForm name) (λ file. Then (ReadsForms n
 
 -- The executable
 
--- this is no operation that isn't defined
-abbrev pub IsNotUndefined : Outcome → Type 0
-IsNotUndefined (Ended output text) = Unit {0}
-IsNotUndefined (Out output) = Unit {0}
-IsNotUndefined (Undefined output why place) = ⊥
-IsNotUndefined (Deep output place) = Unit {0}
-
--- for this input the sources do nothing undefined
-abbrev pub DoNothingUndefined : List Source → (input : List ℕ) → Type 0
-DoNothingUndefined sources input = (turns : ℕ) → IsNotUndefined (source_run sources input turns)
-
--- the files join, and the bytes are an executable without symbols that keeps the meaning of their sources
+-- The files join, and the bytes are an executable without symbols that keeps the meaning of their sources. What is
+-- special to the form: their run always has room for its calls, and where it does nothing undefined, the machine has
+-- exited within the default budget.
 pub record IsProgram (files : List File) (bytes : List ℕ) : Type 0 where
   pub joins : Joins (linked (map module_of files))
   pub stripped : IsStripped bytes
   pub keeps : KeepsMeaning (union_run (map source_of files)) bytes
-  -- what is special to the form: where they do nothing undefined, the machine has exited within the default budget
-  pub ends : (input : List ℕ) → DoNothingUndefined (map source_of files) input →
-      (output text : List ℕ) × HasExited bytes input DEFAULT_BUDGET output text input
+  pub has_room : (input : List ℕ) (turns : ℕ) → IsNotDeep (source_run (map source_of files) input turns)
+  pub ends : EndsInTime (map source_of files) bytes
 
 -- files are joined and compiled
 pub data Links {C : Type 0} (files : List File) : Result (List ℕ) Refusal → List C → Type 0 where
