@@ -98,3 +98,15 @@ exit_and_halt (Ok parts) input n m output text left so_far cause pc a b =
 pub exit_no_halt : (bytes input : List ℕ) (n m : ℕ) (output text left so_far : List ℕ) (cause : HaltCause) (pc : ℕ) → HasExited bytes input n output text left → HasHalted bytes input m so_far cause pc → ⊥
 unfolding vrun
 exit_no_halt bytes input n m output text left so_far cause pc a b = exit_and_halt (image_of bytes) input n m output text left so_far cause pc a b
+
+-- an exit stays as it is
+
+exits_later : (r : Result ImageParts AoutFault) (input : List ℕ) (n m : ℕ) (output text left : List ℕ) → n ≤ m → Started r input n (λ s. Ends s output text left) → Started r input m (λ s. Ends s output text left)
+exits_later (Err fault) input n m output text left le a = a
+exits_later (Ok parts) input n m output text left le a =
+    let s : State = start_of parts input in
+    subst (λ (x : State). Ends x output text left) (sym (run_later s n m le (exited_ended (run n s).core.ending a.0))) a
+
+pub exit_later : (bytes input : List ℕ) (n m : ℕ) (output text left : List ℕ) → n ≤ m → HasExited bytes input n output text left → HasExited bytes input m output text left
+unfolding vrun
+exit_later bytes input n m output text left le a = exits_later (image_of bytes) input n m output text left le a

@@ -13,3 +13,9 @@ pub mod Once
 pub mod Meaning
 pub mod Every
 pub mod Clauses
+pub mod Exclusion
+pub mod Told
+pub mod ViClause
+pub mod RunClause
+pub mod HeadlineClause
+pub mod FormClause
