@@ -1,5 +1,5 @@
 -- A run that has ended stays, so it exits in one way, and doesn't run on later.
-use Rattle.std.proofs.Common.{◌≡◌, ◌≤◌, ℕ, ◌+◌, ◌-◌, List, IsSomeAnd, Result, Ok, Err, option_map, refl, sym, ap, ◌∙◌, subst, arith}
+use Rattle.std.proofs.Common.{◌≡◌, ◌≤◌, ℕ, ◌+◌, ◌-◌, List, IsSomeAnd, Result, Ok, Err, option_map, sym, ap, ◌∙◌, subst, arith}
 use Rattle.p9_aout.specs.Image.{ImageParts, image_of}
 use Rattle.p9_aout.specs.declared.format.AoutFault.{AoutFault}
 use Rattle.p9_r3k.specs.Laws.{HasEnded}

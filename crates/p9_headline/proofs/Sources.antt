@@ -1,5 +1,5 @@
 -- A source whose executable keeps its meaning has ended where the machine has exited, and the machine never halts.
-use Rattle.std.proofs.Common.{◌≡◌, ◌≤◌, ℕ, ◌+◌, List, refl, sym, ap, ◌∙◌, subst, arith}
+use Rattle.std.proofs.Common.{◌≡◌, ℕ, ◌+◌, List, refl, arith}
 use Rattle.p9_base.specs.declared.halt.HaltCause.{HaltCause}
 use Rattle.p9_vi.specs.Run.{HasHalted}
 use Rattle.p9_headline.specs.Headline.{Seen, SourceRun, Ended, Out, Other, IsDefined, AreDefined, HasExited, KeepsMeaning}

@@ -1,5 +1,5 @@
 -- What is seen of a union of sources of the form, and what is special to the form: its programs end in time.
-use Rattle.std.specs.Prelude.{◌≡◌, ℕ, List}
+use Rattle.std.specs.Prelude.{ℕ, List}
 use Rattle.p9_first.specs.Modules.{Source}
 use Rattle.p9_first.specs.Turns.{Outcome, Ended, Out, Undefined, Deep}
 use Rattle.p9_first.specs.CRun.{source_run}

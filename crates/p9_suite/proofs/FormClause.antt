@@ -9,6 +9,8 @@ use Rattle.p9_base.specs.Outside.{FileCall, WriteCall}
 use Rattle.p9_base.specs.SystemCalls.{State, state, exit_text}
 use Rattle.p9_base.specs.declared.halt.Ending.{Ending}
 use Rattle.p9_base.specs.declared.halt.Ending.TheVariants as endings
+use Rattle.p9_cmean.specs.declared.Cause.{Cause}
+use Rattle.p9_cmean.specs.declared.Place.{Place}
 use Rattle.p9_first.specs.CRun.{source_run}
 use Rattle.p9_first.specs.Modules.{Source}
 use Rattle.p9_first.specs.Turns.{Outcome}
@@ -33,7 +35,7 @@ use Rattle.p9_suite.specs.CommandLine.{Run, Command, RunCommand}
 use Rattle.p9_suite.specs.Scene.{Scene, IsAnswer, command, left, left_now, has_run}
 use Rattle.p9_suite.specs.Simulation.{IsRunBy, exit_answer, answer_by, answer_at}
 use Rattle.p9_suite.specs.Suite.{Answered, Comes, CommandComes, answer_of}
-use Rattle.p9_suite.specs.commands.Form.{IsNotUndefined, DoNothingUndefined, HaveEnded, OfForm, FormSays}
+use Rattle.p9_suite.specs.commands.Form.{DoNothingUndefined, HaveEnded, OfForm, FormSays}
 use Rattle.p9_suite.specs.commands.Run.{RunStages, ReadsForms, IsProgram}
 use Rattle.p9_suite.specs.declared.answer.Answer.{Answer}
 use Rattle.p9_suite.specs.declared.answer.Answer.TheVariants.{Refused}
@@ -73,10 +75,10 @@ no_refusal_run Memory e = cc
 some_same : {A : Type 0} {x y : A} → Some x ≡ Some y → x ≡ y
 some_same e = cc
 
-defined : (input : List ℕ) (o : Outcome) → IsNotDeep o → IsNotUndefined o → IsDefined (seen_of input o)
+defined : (input : List ℕ) (o : Outcome) → IsNotDeep o → ((output : List ℕ) (why : Cause) (place : Place) → o ≢ outcome.Undefined output why place) → IsDefined (seen_of input o)
 defined input (outcome.Ended output text) deep undefined = tt
 defined input (outcome.Out output) deep undefined = tt
-defined input (outcome.Undefined output why place) deep undefined = undefined
+defined input (outcome.Undefined output why place) deep undefined = absurd (undefined output why place refl)
 defined input (outcome.Deep output place) deep undefined = deep
 
 ended_same : {a b c x y z : List ℕ} → seen.Ended a b c ≡ seen.Ended x y z → (a ≡ x) × (b ≡ y)
@@ -84,6 +86,7 @@ ended_same e = (first e, second e)
   where
     first : {a b c x y z : List ℕ} → seen.Ended a b c ≡ seen.Ended x y z → a ≡ x
     first e = cc
+
     second : {a b c x y z : List ℕ} → seen.Ended a b c ≡ seen.Ended x y z → b ≡ y
     second e = cc
 

@@ -40,16 +40,8 @@ abbrev pub objects : {I O F : Type 0} → I → O → F → Objects I O F
 objects input out files = record { input = input; out = out; files = files }
 
 abbrev pub scene : {I O F : Type 0} → Doing I O F → Telling I O F → Counts I O F → (old new : Objects I O F) → (words : List (List ℕ)) → (s : ℕ) → (Line : List ℕ → Type 0) → Scene I O F
-scene doing telling counts old new words s Line = record {
-  doing = doing;
-  telling = telling;
-  counts = counts;
-  old = old;
-  new = new;
-  words = words;
-  status = s;
-  Line = Line;
-}
+scene doing telling counts old new words s Line =
+    record { doing = doing; telling = telling; counts = counts; old = old; new = new; words = words; status = s; Line = Line }
 
 -- What is asked of a scene
 

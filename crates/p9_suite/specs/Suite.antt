@@ -1,6 +1,6 @@
 -- The answer of a call: each command comes to it by its own stages.
 use Rattle.std.specs.Prelude.{◌≡◌, ℕ, List, [], Option, Some, None, Result, Ok, Err}
-use Rattle.p9_base.specs.Calls.{Call, Objects, Doing, Did}
+use Rattle.p9_base.specs.Calls.{Call, Did}
 use Rattle.p9_suite.specs.declared.answer.Answer.{Answer}
 use Rattle.p9_suite.specs.declared.answer.Answer.TheVariants.{Usage, Refused}
 use Rattle.p9_suite.specs.declared.answer.Refusal.{Refusal}
@@ -23,10 +23,6 @@ abbrev pub CommandComes : Option Command → Answer → List Call → Type 0
 CommandComes None answer calls = (answer ≡ Usage) × (calls ≡ [])
 CommandComes (Some (RunCommand run)) answer calls = Comes (RunStages run) answer calls
 CommandComes (Some (ViCommand vi)) answer calls = Comes (ViStages vi) answer calls
-
--- such calls were made
-abbrev pub CommandMakes : {I O F : Type 0} → Doing I O F → (old new : Objects I O F) → Option Command → Answer → Type 0
-CommandMakes doing old new command answer = (calls : List Call) × Did doing old calls new × CommandComes command answer calls
 
 -- the calls that were made are those by which the command comes to an answer, and the status and the line are its
 pub record Answered {I O F : Type 0} (call : Scene I O F) : Type 0 where

@@ -88,13 +88,25 @@ fn put_link<S: Sink>(sink: &mut S, fault: &LinkFault) -> bool
 {
     match fault {
         LinkFault::Twice { name, i, j } => {
-            put_two(sink, b"vl: 40 Twice ", &name.list, u64::from(*i), u64::from(*j))
+            put_two(
+                sink,
+                b"vl: 40 Twice ",
+                &name.list,
+                u64::from(*i),
+                u64::from(*j),
+            )
         }
         LinkFault::Unresolved { name, i } => {
             put_one(sink, b"vl: 41 Unresolved ", &name.list, u64::from(*i))
         }
         LinkFault::Disagree { name, i, j } => {
-            put_two(sink, b"vl: 42 Disagree ", &name.list, u64::from(*i), u64::from(*j))
+            put_two(
+                sink,
+                b"vl: 42 Disagree ",
+                &name.list,
+                u64::from(*i),
+                u64::from(*j),
+            )
         }
         LinkFault::NoMain => put_all(sink, b"vl: 43 NoMain\n"),
         LinkFault::MainType { i } => put_number_line(sink, b"vl: 44 MainType ", u64::from(*i)),

@@ -1,9 +1,10 @@
 // The top call.
-ghost use Rattle.std.specs.Prelude.{◌≡◌};
+ghost use Rattle.std.specs.Prelude.{◌≡◌, List};
+ghost use Rattle.p9_base.specs.Calls.{Call, Did};
 ghost use Rattle.p9_suite.specs.CommandLine.{command_of};
 ghost use Rattle.p9_suite.specs.Reports.{Tells};
 ghost use Rattle.p9_suite.specs.Scene.{OfEveryCommand, counts, doing, objects, scene, telling};
-ghost use Rattle.p9_suite.specs.Suite.{Answered, CommandMakes, answer_of};
+ghost use Rattle.p9_suite.specs.Suite.{Answered, CommandComes, answer_of};
 ghost use Rattle.p9_suite.specs.commands.Form.{FormSays};
 ghost use Rattle.p9_suite.specs.commands.Headline.{Headline};
 ghost use Rattle.p9_suite.specs.commands.Run.{RunSays};
@@ -34,8 +35,9 @@ fn answer<I: Source, O: Sink, F: Files>(
     out: &mut O,
     files: &mut F,
 ) -> Answer
-    ensures { CommandMakes (doing I.did O.did F.did) (objects input.old out.old files.old) (objects input.new out.new files.new)
-        (command_of words.now) result }
+    ensures { (calls : List Call)
+        × Did (doing I.did O.did F.did) (objects input.old out.old files.old) calls (objects input.new out.new files.new)
+        × CommandComes (command_of words.now) result calls }
 {
     match command_of(words) {
         Some(Command::Run(c)) => {

@@ -4,9 +4,10 @@ use Rattle.std.specs.Prelude.{◌≡◌, ◌≢◌, ◌≤◌, ℕ, true, List, 
 use Rattle.p9_base.specs.CallBytes.{IsSteady, brought_in, written_in}
 use Rattle.p9_base.specs.Calls.{StreamCall, OnStream, OnFiles, Did}
 use Rattle.p9_base.specs.Outside.{FileCall, WriteCall}
+use Rattle.p9_cmean.specs.declared.Cause.{Cause}
+use Rattle.p9_cmean.specs.declared.Place.{Place}
 use Rattle.p9_first.specs.CRun.{source_run}
 use Rattle.p9_first.specs.Modules.{Source, sources_of}
-use Rattle.p9_first.specs.Turns.{Outcome}
 use Rattle.p9_first.specs.Turns as outcome
 use Rattle.p9_form.specs.declared.file.File.{File}
 use Rattle.p9_form.specs.Items.{source_of}
@@ -26,16 +27,10 @@ AreModulesOf [] (m ∷ ms) = ⊥
 AreModulesOf (file ∷ files) [] = ⊥
 AreModulesOf (file ∷ files) (m ∷ ms) = IsModuleOf file m × AreModulesOf files ms
 
--- this is no operation that isn't defined
-abbrev pub IsNotUndefined : Outcome → Type 0
-IsNotUndefined (outcome.Ended output text) = Unit {0}
-IsNotUndefined (outcome.Out output) = Unit {0}
-IsNotUndefined (outcome.Undefined output why place) = ⊥
-IsNotUndefined (outcome.Deep output place) = Unit {0}
-
 -- for this input the sources do nothing undefined
 abbrev pub DoNothingUndefined : List Source → (input : List ℕ) → Type 0
-DoNothingUndefined sources input = (turns : ℕ) → IsNotUndefined (source_run sources input turns)
+DoNothingUndefined sources input =
+    (turns : ℕ) (output : List ℕ) (why : Cause) (place : Place) → source_run sources input turns ≢ outcome.Undefined output why place
 
 -- for this input the sources have ended with what was written, and the answer is that of their text
 pub record HaveEnded {I O F : Type 0} (call : Scene I O F) (sources : List Source) (input written : List ℕ) : Type 0 where
