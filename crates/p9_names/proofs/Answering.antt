@@ -8,18 +8,18 @@ use Rattle.p9_abs.specs.declared.modules.Symbol.{Symbol}
 use Rattle.p9_abs.specs.declared.modules.AModule.{AModule}
 use Rattle.p9_abs.specs.Modules.{size_of}
 use Rattle.p9_abs.specs.Validity.{IsValid, AreApart, HasSizeInRange}
-use Rattle.p9_names.specs.declared.table.Def.{Def}
+use Rattle.p9_abs.specs.declared.modules.Def.{Def}
 use Rattle.p9_names.specs.Rules.{is_main, main_name}
-use Rattle.p9_names.specs.Linking.{symbol_at, IsKept, Defines, IsUndefined, IsFirstDefinition, HasMain, HasWrongMain, Uses, AllResolved, IsUnresolved, IsFirstUnresolved, IsChosen, IsTable}
-use Rattle.p9_names.specs.BuiltIn.{builtin_module, builtin_symbols}
+use Rattle.p9_abs.specs.Names.{symbol_at, Defines, IsUndefined, IsFirstDefinition, IsChosen}
+use Rattle.p9_names.specs.Linking.{IsKept, HasMain, HasWrongMain, Uses, AllResolved, IsUnresolved, IsFirstUnresolved, IsTable}
+use Rattle.p9_abs.specs.BuiltIn.{builtin_module, builtin_symbols, linked}
 use Rattle.p9_names.specs.declared.table.LinkFault.{LinkFault}
 use Rattle.p9_names.specs.declared.table.LinkFault.TheVariants.{Twice, NoMain, MainType, Unresolved, Disagree, Memory}
 use Rattle.p9_names.specs.declared.rules.Rule.TheVariants.{Once, Agreement}
-use Rattle.p9_names.specs.Answers.{linked, Joins, IsRefusal}
-use Rattle.p9_names.specs.Passes.{AreLinkable, ArePlaces, IsTwice, IsMainFault, IsUseFault, IsDisagreement, globals_of, uses_of, is_missing, defines}
+use Rattle.p9_names.specs.Answers.{Joins, IsRefusal}
+use Rattle.p9_names.specs.Passes.{AreLinkable, ArePlaces, IsTwice, IsMainFault, IsUseFault, IsDisagreement, globals_of, uses_of, is_missing, defines, is_global_use}
 use Rattle.p9_names.proofs.Lists.{slice_get-some, find-some, find-none, find-first}
 use Rattle.p9_names.proofs.Listing.{stands-in, listing, global-places, use-places, use-sound, use-complete, from-sorted}
-use Rattle.p9_names.specs.Passes.{is_global_use}
 use Rattle.p9_names.proofs.Breaking.{same_symbol, holds-at, and-left, and-right, first-definition, no-definition}
 use Rattle.p9_names.proofs.Chosen.{bytes-apart}
 

@@ -5,7 +5,8 @@ ghost use Rattle.p9_names.specs.declared.table.LinkFault.TheVariants.{Memory};
 ghost use Rattle.p9_abs.specs.Validity.{IsValid};
 ghost use Rattle.p9_names.specs.Linking.{HasMain, AllResolved, IsTable};
 ghost use Rattle.p9_names.specs.Passes.{AreLinkable, globals_of, IsMainFault, IsUseFault};
-ghost use Rattle.p9_names.specs.Answers.{linked, Joins, IsRefusal};
+ghost use Rattle.p9_abs.specs.BuiltIn.{linked};
+ghost use Rattle.p9_names.specs.Answers.{Joins, IsRefusal};
 
 use crate::agreement::check_agreement;
 use crate::builtin_module::builtin;
@@ -13,10 +14,10 @@ use crate::conflicts::first_definition;
 use crate::definitions::definitions;
 use crate::places::{Linked, globals};
 use crate::rules::is_main;
-use crate::table::{Def, LinkFault, Table};
+use crate::table::{LinkFault, Table};
 use crate::uses::{first_missing, uses};
 use indexmap::IndexMap;
-use p9_abs::AModule;
+use p9_abs::{AModule, Def};
 use p9_base::{Bytes, Name};
 use std::alloc::Global;
 

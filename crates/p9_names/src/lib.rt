@@ -14,4 +14,5 @@ mod uses;
 pub use builtin_module::builtin;
 pub use joining::resolve;
 pub use rules::Rule;
-pub use table::{Def, LinkFault, Table};
+pub use p9_abs::Def;
+pub use table::{LinkFault, Table};

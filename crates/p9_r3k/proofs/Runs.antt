@@ -14,7 +14,7 @@ use Rattle.p9_base.specs.declared.halt.Asked.TheVariants as asks
 use Rattle.p9_r3k.specs.Memory.{bytes_from}
 use Rattle.p9_r3k.specs.Effects.{effect_of, reads_pair}
 use Rattle.p9_r3k.specs.Machine.{State, fetched, asked, called, acted, executed, going, step, run}
-use Rattle.p9_r3k.specs.Straight.{Addresses, Straight, filled, linked_line, line_at, standing, on_to, at_once, straight_line, straight_going, straight_step, straight_run}
+use Rattle.p9_r3k.specs.Straight.{Addresses, Straight, filled, linked_line, line_at, aim, standing, on_to, at_once, straight_line, straight_going, straight_step, straight_run}
 use Rattle.p9_r3k.specs.Laws.{HasEnded, Extends, EndsWith}
 
 -- A run that has ended stays
@@ -208,7 +208,7 @@ at_once-streams a n target (Stop cause) i s = record { out = extends-same s.out;
 pub straight_line-streams :
     (a : Addresses) (n : ℕ) (line : Option Line) (i : ℕ) (s : State) → ReadsAndWrites s (straight_line a n line i s).state
 straight_line-streams a n None i s = record { out = extends-same s.out; left = ends-same s.left }
-straight_line-streams a n (Some line) i s = at_once-streams a n line.target (effect_of (filled a line) s.core) i s
+straight_line-streams a n (Some line) i s = at_once-streams a n (aim a n line s.core) (effect_of (filled a line) s.core) i s
 
 pub straight_going-streams :
     (a : Addresses) (lines : List Line) (e : Ending) (x : Straight) →

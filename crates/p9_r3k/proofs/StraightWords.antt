@@ -16,8 +16,9 @@ use Rattle.p9_r3k.specs.Table.{Fits}
 use Rattle.p9_r3k.specs.Memory.{text_start, stack_start, with_half_in, with_word_in}
 use Rattle.p9_r3k.specs.Effects.{effect_of}
 use Rattle.p9_r3k.specs.Machine.{State, asked}
-use Rattle.p9_r3k.specs.Straight.{Addresses, Straight, with_imm, with_index, with_piece, with_value, filled, line_at, standing, linked_line, on_to, at_once, straight_line, straight_going, straight_step, straight_run}
-use Rattle.p9_r3k.proofs.Words.{HoldsAll, ValuesFit, with_register-words, memory-words-by, set-bytes, half-bytes, word-bytes, halted-words, called-words, asked-count, effect_of-values}
+use Rattle.p9_r3k.specs.Straight.{Addresses, Straight, with_imm, with_index, with_piece, with_value, filled, line_at, aim, standing, linked_line, on_to, at_once, straight_line, straight_going, straight_step, straight_run}
+use Rattle.p9_base.proofs.Holding.{HoldsAll, ValuesFit, with_register-words, memory-words-by, set-bytes, half-bytes, word-bytes, halted-words, called-words, asked-count}
+use Rattle.p9_r3k.proofs.Words.{effect_of-values}
 
 -- What is filled in fits
 
@@ -225,7 +226,7 @@ pub straight_line-holds :
     WordAddresses a → ((l : Line) → line ≡ Some l → Fits l.inst) → HoldsAll s → HoldsAll (straight_line a n line i s).state
 straight_line-holds a n None i s small fits h = record { words = halted-words s.core Fetch h.words; left = h.left }
 straight_line-holds a n (Some line) i s small fits h =
-    at_once-holds a n line.target (effect_of (filled a line) s.core) i s small
+    at_once-holds a n (aim a n line s.core) (effect_of (filled a line) s.core) i s small
     (effect_of-values (filled a line) s.core (filled-fits a line (fits line refl)) h.words) h
 
 pub straight_going-holds :

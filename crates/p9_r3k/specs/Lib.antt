@@ -7,3 +7,7 @@ pub mod Start
 pub mod Straight
 pub mod Pending
 pub mod Laws
+pub mod Uses
+pub mod UseLaws
+pub mod Delayed
+pub mod DelayedLaws

@@ -12,8 +12,8 @@ use Rattle.p9_base.specs.declared.halt.Ending.{Ending}
 use Rattle.p9_base.specs.declared.halt.Ending.TheVariants.{Running, Exited, Halted}
 use Rattle.p9_base.specs.declared.halt.Effect.{Effect}
 use Rattle.p9_base.specs.declared.halt.Effect.TheVariants.{Write, Pair, Load, StoreByte, StoreHalf, StoreWord, Branch, JumpTo, Call, Stop}
-use Rattle.p9_r3k.specs.Memory.{text_start, with_reg, with_byte, with_half, with_word}
-use Rattle.p9_r3k.specs.Effects.{effect_of}
+use Rattle.p9_r3k.specs.Memory.{Core, text_start, with_reg, with_byte, with_half, with_word}
+use Rattle.p9_r3k.specs.Effects.{effect_of, jump_to}
 use Rattle.p9_r3k.specs.Machine.{State, halted, asked, called}
 
 -- A map of addresses: of the lines, and of the symbols of each module
@@ -69,6 +69,25 @@ unfoldable pub line_at : (ℕ → ℕ) → ℕ → ℕ → ℕ → Option ℕ
 line_at line to i zero = None
 line_at line to i (suc n) = if line i == to then Some i else line_at line to (i + 1) n
 
+-- the line that a jump's piece of an address names: the least line at the address in its word
+abbrev pub named_by_piece : Addresses → ℕ → Part → Inst → Core → Option ℕ
+named_by_piece a n Jump (J index) c = line_at a.line (jump_to c index) 0 n
+named_by_piece a n Jump (Jal index) c = line_at a.line (jump_to c index) 0 n
+named_by_piece a n part i c = None
+
+abbrev pub named_by_value : Addresses → ℕ → Option Value → Inst → Core → Option ℕ
+named_by_value a n None i c = None
+named_by_value a n (Some v) i c = named_by_piece a n v.part i c
+
+abbrev pub target_or : Option ℕ → Option ℕ → Option ℕ
+target_or (Some t) named = Some t
+target_or None named = named
+
+-- where a branch or jump goes: to its target, or, where a jump without a target has a piece of an address, to the line
+-- that the piece names; else to no line
+abbrev pub aim : Addresses → ℕ → Line → Core → Option ℕ
+aim a n line c = target_or line.target (named_by_value a n line.value (filled a line) c)
+
 -- The machine before the line of number `at`. Of its core the place, the slot and the marks mean nothing.
 pub record Straight : Type 0 where
   pub state : State
@@ -104,7 +123,7 @@ at_once a n target (Stop cause) i s = record { state = record s { core = halted 
 
 abbrev pub straight_line : Addresses → ℕ → Option Line → ℕ → State → Straight
 straight_line a n None i s = record { state = record s { core = halted s.core Fetch }; at = i }
-straight_line a n (Some line) i s = at_once a n line.target (effect_of (filled a line) s.core) i s
+straight_line a n (Some line) i s = at_once a n (aim a n line s.core) (effect_of (filled a line) s.core) i s
 
 -- a run that has ended stays
 abbrev pub straight_going : Addresses → List Line → Ending → Straight → Straight

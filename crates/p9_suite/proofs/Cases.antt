@@ -10,7 +10,8 @@ use Rattle.p9_base.specs.Outside.{FileCall, ReadCall, WriteCall}
 use Rattle.p9_base.specs.declared.outside.FileFault.TheVariants as store
 use Rattle.p9_base.specs.declared.outside.Got.TheVariants as got
 use Rattle.p9_form.specs.declared.file.File.{File}
-use Rattle.p9_names.specs.Answers.{linked, IsRefusal}
+use Rattle.p9_abs.specs.BuiltIn.{linked}
+use Rattle.p9_names.specs.Answers.{IsRefusal}
 use Rattle.p9_names.specs.declared.table.LinkFault.{LinkFault}
 use Rattle.p9_share.specs.Symbols.{module_of}
 use Rattle.p9_suite.proofs.Calls.{AreReads, reads_append, after_fine}

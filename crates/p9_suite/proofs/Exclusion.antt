@@ -8,7 +8,8 @@ use Rattle.p9_form.specs.Spelling.{HasForm, HasNoForm}
 use Rattle.p9_names.specs.declared.table.Table.{Table}
 use Rattle.p9_names.specs.declared.table.LinkFault.{LinkFault}
 use Rattle.p9_names.specs.declared.table.LinkFault.TheVariants as links
-use Rattle.p9_names.specs.Answers.{linked, Joins}
+use Rattle.p9_abs.specs.BuiltIn.{linked}
+use Rattle.p9_names.specs.Answers.{Joins}
 use Rattle.p9_names.proofs.Exactness.{joined_exactly}
 use Rattle.p9_share.specs.Symbols.{module_of}
 use Rattle.p9_suite.proofs.Once.{same_items, same_module}

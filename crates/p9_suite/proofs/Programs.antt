@@ -7,7 +7,8 @@ use Rattle.p9_form.specs.Items.{items_of, source_of}
 use Rattle.p9_form.specs.Sharing.{AreJoined, IsSmall}
 use Rattle.p9_headline.specs.Executable.{IsStripped}
 use Rattle.p9_headline.specs.Headline.{KeepsMeaning}
-use Rattle.p9_names.specs.Answers.{linked, Joins}
+use Rattle.p9_abs.specs.BuiltIn.{linked}
+use Rattle.p9_names.specs.Answers.{Joins}
 use Rattle.p9_share.specs.Symbols.{module_of}
 use Rattle.p9_straight.specs.Headline.{union_run, EndsInTime}
 use Rattle.p9_suite.specs.commands.Run.{IsProgram}

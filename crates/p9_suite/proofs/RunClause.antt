@@ -4,7 +4,8 @@ use Rattle.std.specs.Prelude.{IsSomeAnd}
 use Rattle.p9_base.specs.Calls.{Call, OnFiles, OnStream, StreamCall, Objects, Did}
 use Rattle.p9_base.specs.Outside.{Held, FileCall, WriteCall}
 use Rattle.p9_form.specs.declared.file.File.{File}
-use Rattle.p9_names.specs.Answers.{linked, Joins}
+use Rattle.p9_abs.specs.BuiltIn.{linked}
+use Rattle.p9_names.specs.Answers.{Joins}
 use Rattle.p9_names.specs.declared.table.LinkFault.{LinkFault}
 use Rattle.p9_names.specs.declared.table.LinkFault.TheVariants as links
 use Rattle.p9_share.specs.Symbols.{module_of}

@@ -1,7 +1,6 @@
 //! The simulator of the big-endian R3000.
 #![tactic(auto)]
 
-mod hazards;
 mod machine;
 mod operations;
 mod simulation;

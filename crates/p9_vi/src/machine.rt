@@ -7,7 +7,7 @@ ghost use Rattle.p9_r3k.specs.Start.{zeros, page_from, before_run, low_bytes};
 ghost use Rattle.p9_vi.specs.Run.{start_of, IsExited};
 
 use p9_aout::Image;
-use p9_base::NoMemory;
+use p9_base::{ByteOrder, NoMemory};
 use p9_r3k::Ending;
 use std::alloc::Global;
 use std::marker::Model;
@@ -34,6 +34,7 @@ const PAGE: u32 = 4096;
 /// A machine with its memory.
 #[derive(Drop)]
 pub struct Machine {
+    order: ByteOrder,
     regs: [u32; 32],
     hi: u32,
     lo: u32,
@@ -54,14 +55,13 @@ pub struct Machine {
 
 impl Model for Machine {
     ghost use Rattle.std.specs.Prelude.{◌≡◌, ◌+◌, ◌%◌, ◌^◌, ◌<◌, ◌≤◌, length};
-    ghost use Rattle.p9_base.specs.declared.order.ByteOrder.TheVariants.{Big};
     ghost use Rattle.p9_r3k.specs.Memory.{Core, text_start, stack_start};
     ghost use Rattle.p9_vi.specs.Kept.{ExitFits};
 
     ghost Value = { Core };
 
     ghost view = { λ m. record {
-      order = Big;
+      order = m.order;
       regs = m.regs;
       hi = m.hi;
       lo = m.lo;
@@ -84,7 +84,7 @@ impl Model for Machine {
 }
 
 impl Machine {
-    /// Takes all memory of the run, and stands before the first instruction.
+    /// Takes all memory of the run, and stands before the first instruction, big-endian.
     pub fn new(alloc: Global, image: &Image) -> Result<Machine, NoMemory>
         requires { IsWithinBounds (parts_of image.now) }
         ensures { IfOk result (λ machine. machine ≡ (start_of (parts_of image.now) []).core) }
@@ -98,6 +98,13 @@ impl Machine {
         let stack = zeros(alloc, STACK_SIZE)?;
         let text_end = TEXT_START + image.text.list.len() as u32;
         Ok(before_run(low, stack, text_end, page_from(text_end), image.entry))
+    }
+
+    /// The same machine over memory whose half words and words have this order.
+    pub fn in_order(self, order: ByteOrder) -> Machine
+        ensures { result ≡ record self { order = order } }
+    {
+        Machine { order, ..self }
     }
 
     /// The text of the exit.
@@ -174,6 +181,7 @@ fn before_run(low: Vec<u8>, stack: Vec<u8>, text_end: u32, data_start: u32, entr
     regs[29] = STACK_END;
     let low_end = TEXT_START + low.len() as u32;
     Machine {
+        order: ByteOrder::Big,
         regs,
         hi: 0,
         lo: 0,

@@ -10,7 +10,8 @@ use Rattle.p9_form.specs.Sharing.{IsSmall}
 use Rattle.p9_form.specs.Spelling.{HasForm, HasNoForm}
 use Rattle.p9_headline.specs.Executable.{IsStripped}
 use Rattle.p9_headline.specs.Headline.{KeepsMeaning}
-use Rattle.p9_names.specs.Answers.{linked, Joins, IsRefusal}
+use Rattle.p9_abs.specs.BuiltIn.{linked}
+use Rattle.p9_names.specs.Answers.{Joins, IsRefusal}
 use Rattle.p9_names.specs.declared.table.LinkFault.{LinkFault}
 use Rattle.p9_names.specs.declared.table.LinkFault.TheVariants as links
 use Rattle.p9_share.specs.Symbols.{module_of}

@@ -10,7 +10,6 @@ ghost use Rattle.p9_base.specs.Pieces.{Brings, ReadBrings, MemoryIs, WritesPiece
 ghost use Rattle.p9_vi.specs.Tied.{AtRequest, Ties, StepCount};
 ghost use Rattle.p9_vi.specs.Kept.{CanAsk};
 
-use crate::hazards::reads_pair;
 use crate::machine::{Machine, STACK_START, TEXT_START};
 use crate::stop::{Stepped, Stop};
 use p9_base::{Sink, Source, fill_at, put_all};
@@ -142,7 +141,7 @@ impl Machine {
                     self.call(request, input, out)
                 }
                 effect => {
-                    self.apply(effect, reads_pair(i));
+                    self.apply(effect, i.reads_pair());
                     Stepped::Done
                 }
             },

@@ -3,7 +3,6 @@ ghost use Rattle.std.specs.Prelude.{◌≡◌, IfOk};
 ghost use Rattle.p9_r3k.specs.Table.{Fits};
 ghost use Rattle.p9_r3k.specs.Machine.{fetched};
 
-use crate::hazards::{branches, reads, writes_pair};
 use crate::machine::{Machine, TEXT_START};
 use p9_r3k::{HaltCause, Inst, decode};
 
@@ -21,11 +20,11 @@ impl Machine {
         match decode(self.word(self.pc)) {
             None => Err(HaltCause::BadWord),
             Some(i) => {
-                if self.loaded != 0 && reads(i, self.loaded) {
+                if self.loaded != 0 && i.reads(self.loaded) {
                     Err(HaltCause::LoadHazard)
-                } else if writes_pair(i) && (self.used || self.used_before) {
+                } else if i.writes_pair() && (self.used || self.used_before) {
                     Err(HaltCause::HiLoHazard)
-                } else if self.slot && branches(i) {
+                } else if self.slot && i.branches() {
                     Err(HaltCause::SlotBranch)
                 } else {
                     Ok(i)

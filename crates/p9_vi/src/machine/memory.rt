@@ -1,11 +1,8 @@
 // Registers and memory by address.
 ghost use Rattle.std.specs.Prelude.{◌≡◌, ◌<◌, ◌≤◌, ◌+◌, ◌^◌, length};
-ghost use Rattle.p9_base.specs.Numbers.{word_at};
-ghost use Rattle.p9_base.specs.declared.order.ByteOrder.TheVariants.{Big};
-ghost use Rattle.p9_r3k.specs.Memory.{reg, with_reg, readable, writable, half_in, with_half_in, with_word_in, read_byte, read_half, read_word, with_byte, with_half, with_word, bytes_from};
+ghost use Rattle.p9_r3k.specs.Memory.{reg, with_reg, readable, writable, read_byte, read_half, read_word, with_byte, with_half, with_word, bytes_from};
 
 use crate::machine::{Machine, STACK_END, STACK_START, TEXT_START};
-use p9_base::get32;
 
 impl Machine {
     // What a register holds.
@@ -89,9 +86,9 @@ impl Machine {
         ensures { result ≡ read_half self.now a }
     {
         if a < STACK_START {
-            half_in(&self.low, (a - TEXT_START) as usize)
+            self.order.half(&self.low, (a - TEXT_START) as usize)
         } else {
-            half_in(&self.stack, (a - STACK_START) as usize)
+            self.order.half(&self.stack, (a - STACK_START) as usize)
         }
     }
 
@@ -101,9 +98,9 @@ impl Machine {
         ensures { result ≡ read_word self.now a }
     {
         if a < STACK_START {
-            get32(&self.low, (a - TEXT_START) as usize)
+            self.order.word(&self.low, (a - TEXT_START) as usize)
         } else {
-            get32(&self.stack, (a - STACK_START) as usize)
+            self.order.word(&self.stack, (a - STACK_START) as usize)
         }
     }
 
@@ -123,9 +120,11 @@ impl Machine {
         ensures { self.new ≡ with_half self.old a value }
     {
         if a < STACK_START {
-            set_half_in(&mut self.low, (a - TEXT_START) as usize, value);
+            self.order
+                .set_half(&mut self.low, (a - TEXT_START) as usize, value);
         } else {
-            set_half_in(&mut self.stack, (a - STACK_START) as usize, value);
+            self.order
+                .set_half(&mut self.stack, (a - STACK_START) as usize, value);
         }
     }
 
@@ -134,9 +133,11 @@ impl Machine {
         ensures { self.new ≡ with_word self.old a value }
     {
         if a < STACK_START {
-            set_word_in(&mut self.low, (a - TEXT_START) as usize, value);
+            self.order
+                .set_word(&mut self.low, (a - TEXT_START) as usize, value);
         } else {
-            set_word_in(&mut self.stack, (a - STACK_START) as usize, value);
+            self.order
+                .set_word(&mut self.stack, (a - STACK_START) as usize, value);
         }
     }
 
@@ -156,29 +157,4 @@ impl Machine {
             &self.stack[start..start + count as usize]
         }
     }
-}
-
-fn half_in(bytes: &[u8], i: usize) -> u32
-    requires { i + 2 ≤ length bytes.now }
-    ensures { result ≡ half_in Big bytes.now i }
-{
-    u32::from(bytes[i]) * 0x100 + u32::from(bytes[i + 1])
-}
-
-fn set_half_in(bytes: &mut [u8], i: usize, half: u32)
-    requires { i + 2 ≤ length bytes.old }
-    ensures { bytes.new ≡ with_half_in Big bytes.old i half }
-{
-    bytes[i] = (half / 0x100 % 0x100) as u8;
-    bytes[i + 1] = (half % 0x100) as u8;
-}
-
-fn set_word_in(bytes: &mut [u8], i: usize, word: u32)
-    requires { i + 4 ≤ length bytes.old }
-    ensures { bytes.new ≡ with_word_in Big bytes.old i word }
-{
-    bytes[i] = (word / 0x100_0000 % 0x100) as u8;
-    bytes[i + 1] = (word / 0x1_0000 % 0x100) as u8;
-    bytes[i + 2] = (word / 0x100 % 0x100) as u8;
-    bytes[i + 3] = (word % 0x100) as u8;
 }

@@ -1,13 +1,11 @@
 // Steps that touch neither the input nor the output.
 ghost use Rattle.std.specs.Prelude.{◌≡◌, ◌<◌, ◌≤◌, ◌+◌, ◌%◌, length, IfOk, IsTrue, Ok};
-ghost use Rattle.p9_base.specs.Numbers.{word_at};
 ghost use Rattle.p9_r3k.specs.Table.{Fits};
 ghost use Rattle.p9_r3k.specs.Memory.{text_start, read_word};
 ghost use Rattle.p9_r3k.specs.Machine.{fetched};
 ghost use Rattle.p9_vi.specs.Kept.{IsClear};
 ghost use Rattle.p9_vi.specs.Steps.{Plain, PlainRun};
 
-use crate::hazards::reads_pair;
 use crate::machine::{Machine, TEXT_START};
 use p9_r3k::{Effect, Ending, HaltCause, Inst, decode};
 
@@ -28,7 +26,7 @@ impl Machine {
         requires below { self.now.pc < self.now.text_end }
         ensures { result ≡ read_word self.now self.now.pc }
     {
-        word_read(&self.low, (self.pc - TEXT_START) as usize)
+        self.order.word(&self.low, (self.pc - TEXT_START) as usize)
     }
 
     // The next instruction, or the stop that comes before its own, where no hazard can come.
@@ -59,7 +57,7 @@ impl Machine {
         match self.effect(i) {
             Effect::Call => false,
             effect => {
-                self.apply(effect, reads_pair(i));
+                self.apply(effect, i.reads_pair());
                 true
             }
         }
@@ -124,16 +122,4 @@ impl Machine {
         }
         most
     }
-}
-
-// The word of the four bytes from `at` on, the highest first, by one read of four bytes.
-#[tactic(auto, using(crate::proofs::Clear::word_is_read))]
-#[inline(always)]
-fn word_read(bytes: &[u8], at: usize) -> u32
-    requires { at + 4 ≤ length bytes.now }
-    ensures { result ≡ word_at bytes.now at }
-{
-    let mut word = [0; 4];
-    word.copy_from_slice(&bytes[at..at + 4]);
-    u32::from_be_bytes(word)
 }

@@ -1,4 +1,4 @@
-use Rattle.p9_names.specs.Answers.{linked}
+use Rattle.p9_abs.specs.BuiltIn.{linked}
 use Rattle.p9_names.proofs.Exactness.{refused_exactly, joined_exactly}
 use Rattle.p9_names.proofs.joining.resolve.Goals as goal
 

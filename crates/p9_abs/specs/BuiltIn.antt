@@ -1,5 +1,5 @@
 -- The module that each program is linked with: its start, which calls main, and three functions.
-use Rattle.std.specs.Prelude.{ℕ, ◌+◌, ◌*◌, ◌/◌, true, false, List, [], ◌∷◌, ◌++◌, codes, sum_by, unwrap_or}
+use Rattle.std.specs.Prelude.{ℕ, ◌+◌, true, false, List, [], ◌∷◌, ◌++◌, codes}
 use Rattle.p9_abs.specs.declared.instructions.Op.{Op}
 use Rattle.p9_abs.specs.declared.instructions.Op.TheVariants.{MovW, Jal, Ret, Syscall}
 use Rattle.p9_abs.specs.declared.instructions.Operand.{Operand}
@@ -10,7 +10,7 @@ use Rattle.p9_abs.specs.declared.modules.Body.{Body}
 use Rattle.p9_abs.specs.declared.modules.Body.TheVariants.{Used, Text, Data}
 use Rattle.p9_abs.specs.declared.modules.Symbol.{Symbol}
 use Rattle.p9_abs.specs.declared.modules.AModule.{AModule}
-use Rattle.p9_abs.specs.Modules.{size_of, symbols_weight}
+use Rattle.p9_abs.specs.Modules.{symbols_weight}
 use Rattle.p9_abs.specs.Forms.{start_weight}
 
 abbrev pub inst : Op → List Operand → Abs
@@ -69,14 +69,10 @@ builtin_symbols =
 abbrev pub builtin_module : AModule
 builtin_module = record { symbols = builtin_symbols }
 
--- a size rounded up to a multiple of 4
-abbrev pub rounded : ℕ → ℕ
-rounded size = (size + 3) / 4 * 4
-
--- the bytes of a module's data and common objects, each rounded up
-abbrev pub data_size : List Symbol → ℕ
-data_size symbols = sum_by (λ s. rounded (unwrap_or (size_of s.body) 0)) symbols
-
 -- the words of the start and of a module's functions
 abbrev pub weight_with_start : List Symbol → ℕ
 weight_with_start symbols = start_weight + symbols_weight symbols
+
+-- the modules that are linked: the built-in one comes last
+abbrev pub linked : List AModule → List AModule
+linked modules = modules ++ builtin_module ∷ []

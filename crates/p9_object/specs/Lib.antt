@@ -1,0 +1,4 @@
+pub mod Fields
+pub mod Machine
+pub mod Bytes
+pub mod Laws

@@ -1,0 +1,36 @@
+// The schedule.
+
+ghost use Rattle.std.specs.Prelude.{IfOk};
+ghost use Rattle.p9_slot.specs.Schedule.{HaveTargets, TargetsAreLines, EachOnce, AddsOnlyNoops, CallsReturn, TargetsDivide};
+ghost use Rattle.p9_slot.specs.Runs.{RunsAsStraight};
+
+use crate::placing::{laid, numbers};
+use p9_base::NoMemory;
+use p9_r3k::Lines;
+use std::alloc::Global;
+
+/// Lines for the machine with branch slots and load delays. `moved` gives each old line's number
+/// among them.
+#[derive(Drop)]
+pub struct Scheduled {
+    pub lines: Lines,
+    pub moved: Vec<u32>,
+}
+
+/// Schedules lines. Lines that would have numbers of 2^32 and more are want of memory.
+pub fn schedule(alloc: Global, lines: &Lines) -> Result<Scheduled, NoMemory>
+    requires targets { HaveTargets lines.now }
+    requires lines { TargetsAreLines lines.now }
+    ensures once { IfOk result (λ s. EachOnce lines.now s.lines s.moved.items) }
+    ensures added { IfOk result (λ s. AddsOnlyNoops lines.now s.lines s.moved.items) }
+    ensures calls { IfOk result (λ s. CallsReturn lines.now s.lines s.moved.items) }
+    ensures divided { IfOk result (λ s. TargetsDivide lines.now s.lines s.moved.items) }
+    ensures runs { IfOk result (λ s. RunsAsStraight lines.now s.lines s.moved.items) }
+{
+    let moved = numbers(alloc, &lines.list)?;
+    let list = laid(alloc, &lines.list, &moved)?;
+    Ok(Scheduled {
+        lines: Lines { list },
+        moved,
+    })
+}
