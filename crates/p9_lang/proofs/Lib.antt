@@ -4,3 +4,4 @@ pub mod Settling
 pub mod Agreeing
 pub mod Growing
 pub mod Counting
+pub mod Placing

@@ -1,6 +1,6 @@
 // Laws of the definitions in `specs/`. Each function does nothing; its contract is the law.
 ghost use Rattle.p9_lang.specs.LayoutExamples.{Agreements, Layouts, WordOperations};
-ghost use Rattle.p9_lang.specs.Laws.{AgreementIsDecided, LayoutIsThatOfMembers, LayoutsStay};
+ghost use Rattle.p9_lang.specs.Laws.{AgreementIsDecided, LayoutIsThatOfMembers, LayoutsStay, MembersArePlaced};
 ghost use Rattle.p9_lang.specs.RefusedFiles.{Refusals};
 ghost use Rattle.p9_lang.specs.TypedFiles.{TypedFiles};
 ghost use Rattle.p9_lang.specs.TypingLaws.{EachNodeIsTyped, SizesStay};
@@ -64,4 +64,10 @@ pub fn each_node_is_typed()
 #[tactic(auto, using(crate::proofs::Counting::sizes_stay))]
 pub fn sizes_stay()
     ensures { SizesStay }
+{}
+
+/// Members stand inside their structure, at multiples of their alignments; those of a structure one
+/// behind the other, those of a union at its start.
+pub fn members_are_placed()
+    ensures { MembersArePlaced }
 {}
