@@ -1,6 +1,6 @@
 -- The names that a module of the form uses are those in the statements of its `main`.
 use Rattle.std.proofs.Common.{◌≡◌, ℕ, ◌+◌, Bool, true, false, ◌||◌, List, [], ◌∷◌, ◌++◌, flat_map, Some, None, Option, refl, sym, ap, ◌∙◌, append-nil, codes}
-use Rattle.p9_lang.specs.declared.tree.Kind.TheVariants as kind
+use Rattle.p9_first.specs.declared.tree.Kind.TheVariants as kind
 use Rattle.p9_first.specs.Types.{TypeTree, Void, Int, Long, Function, Outer}
 use Rattle.p9_first.specs.Types as types
 use Rattle.p9_first.specs.Trees.{none, SyntaxRow, nodes_of}

@@ -2,9 +2,9 @@
 use Rattle.std.proofs.Common.{◌≤◌, ℕ, zero, suc, Bool, true, false, not, if◌then◌else◌, List, [], ◌∷◌, Option, Some, None, Result, Ok, Err, refl}
 use Rattle.std.specs.Prelude.{codes, ◌==◌}
 use Rattle.p9_base.specs.Words.{is_negative}
-use Rattle.p9_lang.specs.declared.tree.CBinary.{CBinary}
-use Rattle.p9_lang.specs.declared.tree.CBinary.TheVariants as operator
-use Rattle.p9_lang.specs.declared.tree.Kind.TheVariants as kind
+use Rattle.p9_first.specs.declared.tree.CBinary.{CBinary}
+use Rattle.p9_first.specs.declared.tree.CBinary.TheVariants as operator
+use Rattle.p9_first.specs.declared.tree.Kind.TheVariants as kind
 use Rattle.p9_first.specs.Types.{TypeTree, TypeRow, Pointer, Array, Function}
 use Rattle.p9_first.specs.Types as types
 use Rattle.p9_first.specs.Layout.{size_of, alignment_of}
@@ -12,8 +12,8 @@ use Rattle.p9_first.specs.Trees.{node, none, more}
 use Rattle.p9_first.specs.Modules.{Typed, TypedRow, Source}
 use Rattle.p9_first.specs.Form.{same_name, is_among}
 use Rattle.p9_first.specs.Modules.{system_names}
-use Rattle.p9_cmean.specs.declared.Cause.{Cause}
-use Rattle.p9_cmean.specs.declared.Place.{Place}
+use Rattle.p9_first.specs.declared.Cause.{Cause}
+use Rattle.p9_first.specs.declared.Place.{Place}
 use Rattle.p9_first.specs.Cells.{FunctionName, Global, Local, Value, Word, Address, Missing, State}
 use Rattle.p9_first.specs.Cells as cells
 use Rattle.p9_first.specs.Plays.{Call, Play, Done, bind, Normal, then_go}

@@ -3,8 +3,8 @@ use Rattle.std.proofs.Common.{◌≡◌, ◌≢◌, ◌<◌, ◌≤◌, ℕ, zer
 use Rattle.std.proofs.lemmas.Bool.{lt-leb}
 use Rattle.std.specs.Prelude.{slice_get, codes}
 use Rattle.p9_first.specs.Modules.{Source}
-use Rattle.p9_cmean.specs.declared.Cause.TheVariants as cause
-use Rattle.p9_cmean.specs.declared.Place.{Place}
+use Rattle.p9_first.specs.declared.Cause.TheVariants as cause
+use Rattle.p9_first.specs.declared.Place.{Place}
 use Rattle.p9_first.specs.Cells.{Global, Pointer, Null, Into, Byte, Object, Value, Word, Address, State}
 use Rattle.p9_first.specs.Plays.{Call, Done, Wrong, Exit}
 use Rattle.p9_first.specs.Turns.{Deep, Over, resolve, calls_to}

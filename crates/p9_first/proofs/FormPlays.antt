@@ -2,15 +2,15 @@
 use Rattle.std.proofs.Common.{◌≡◌, ◌≢◌, ◌<◌, ◌≤◌, ℕ, zero, suc, ◌^◌, Bool, true, false, List, [], ◌∷◌, ◌++◌, map, length, take, All, Some, None, Ok, Err, refl, ap, ◌∙◌, arith}
 use Rattle.std.specs.Prelude.{slice_get, slice_set, codes}
 use Rattle.p9_base.specs.Words.{word_sum}
-use Rattle.p9_lang.specs.declared.tree.CBinary.TheVariants as operator
-use Rattle.p9_lang.specs.declared.tree.Kind.TheVariants as kind
+use Rattle.p9_first.specs.declared.tree.CBinary.TheVariants as operator
+use Rattle.p9_first.specs.declared.tree.Kind.TheVariants as kind
 use Rattle.p9_first.specs.Types.{TypeTree, Char, Int, Long, Array, Meant, Outer}
 use Rattle.p9_first.specs.Types as types
 use Rattle.p9_first.specs.Trees.{node, none, more}
-use Rattle.p9_cmean.specs.declared.Place.{Place}
+use Rattle.p9_first.specs.declared.Place.{Place}
 use Rattle.p9_first.specs.Typing.{exits_type, transfer_type}
 use Rattle.p9_first.specs.Modules.{Label, Typed}
-use Rattle.p9_cmean.specs.declared.Cause.TheVariants as cause
+use Rattle.p9_first.specs.declared.Cause.TheVariants as cause
 use Rattle.p9_first.specs.Cells.{Global, Null, Into, ToFunction, Byte, Object, Value, Word, Address, State}
 use Rattle.p9_first.specs.Plays.{Play, Done, Ask, bind, Flow, Normal}
 use Rattle.p9_first.specs.Access.{number_cells, read_from, write_to, store}

@@ -1,8 +1,8 @@
 -- The nodes of a module of the form, each with what typing says of it, by recursion on the file.
 use Rattle.std.proofs.Common.{◌≡◌, ℕ, zero, suc, ◌+◌, true, false, List, [], ◌∷◌, ◌++◌, map, length, drop, Some, refl, sym, ap, ◌∙◌, subst, arith, append_assoc, length-append, append-nil}
 use Rattle.std.specs.Prelude.{slice_get, unwrap_or}
-use Rattle.p9_lang.specs.declared.tree.Spec.{Spec}
-use Rattle.p9_lang.specs.declared.tree.Kind.TheVariants as kind
+use Rattle.p9_first.specs.declared.tree.Spec.{Spec}
+use Rattle.p9_first.specs.declared.tree.Kind.TheVariants as kind
 use Rattle.p9_first.specs.Types.{TypeTree, Void, Function, Meant, Nothing, Outer}
 use Rattle.p9_first.specs.Types as types
 use Rattle.p9_first.specs.Trees.{node, none, more, Syntax, SyntaxRow, nodes_of, nodes_of_row}

@@ -4,7 +4,7 @@ use Rattle.p9_first.specs.Cells.{Value, State}
 use Rattle.p9_first.specs.Plays.{Call, Play, Done, Wrong, Exit, Cut, Turn, Ask, Moved}
 use Rattle.p9_first.specs.Turns.{Outcome, Ended, Out, Undefined, Deep, End, Gave, Over, and_then, Calls, resolve, Functions, room, call_in, calls_to}
 use Rattle.p9_first.specs.PlayLaws.{LeavesFewer, Follows, Begins, output_of}
-use Rattle.p9_cmean.specs.declared.Place.{Place}
+use Rattle.p9_first.specs.declared.Place.{Place}
 use Rattle.p9_first.proofs.Plays.{follows_less}
 use Rattle.p9_first.proofs.Calls.{Falls, calls_fall}
 use Rattle.p9_first.proofs.Outputs.{begins_refl, begins_trans, Keeps}

@@ -1,10 +1,10 @@
 -- Nodes and types that are made, as plain data.
 use Rattle.std.proofs.Common.{◌≡◌, ℕ, List, [], ◌∷◌, map, refl, ap, sym, ◌∙◌}
-use Rattle.p9_lang.specs.declared.tree.Node.{Node, out-Node, roll-Node, fold-roll-Node, fold_out-Node}
-use Rattle.p9_lang.specs.declared.tree.Node.TheOpen.{Node-F}
-use Rattle.p9_lang.specs.declared.types.CType.{CType, fold-roll-CType}
-use Rattle.p9_lang.specs.declared.types.CType.TheOpen.{CType-F}
-use Rattle.p9_lang.specs.declared.types.CType.TheVariants as ctype
+use Rattle.p9_first.specs.declared.tree.Node.{Node, out-Node, roll-Node, fold-roll-Node, fold_out-Node}
+use Rattle.p9_first.specs.declared.tree.Node.TheOpen.{Node-F}
+use Rattle.p9_first.specs.declared.types.CType.{CType, fold-roll-CType}
+use Rattle.p9_first.specs.declared.types.CType.TheOpen.{CType-F}
+use Rattle.p9_first.specs.declared.types.CType.TheVariants as ctype
 use Rattle.p9_first.specs.Trees.{Syntax, node, row, syntax_step, syntax_of, row_of}
 use Rattle.p9_first.specs.Types.{TypeTree, Void, Char, Int, Long, Pointer, Array, Function, type_row, type_step, type_of, types_of}
 

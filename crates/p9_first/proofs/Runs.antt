@@ -1,6 +1,6 @@
 -- Runs with more turns.
 use Rattle.std.proofs.Common.{◌≡◌, ◌≤◌, ℕ, ◌+◌, ◌-◌, List, refl, sym, ap, subst, arith}
-use Rattle.p9_lang.specs.declared.module.Module.{Module}
+use Rattle.p9_first.specs.declared.module.Module.{Module}
 use Rattle.p9_first.specs.Modules.{Source, sources_of}
 use Rattle.p9_first.specs.Turns.{Outcome, Ended, Out, Undefined, Deep, End, Gave, Over, calls_to}
 use Rattle.p9_first.specs.CRun.{functions_of, main_call, first_state, run_of, outcome_of, copied_of, source_run, crun, copied}

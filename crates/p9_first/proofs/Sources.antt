@@ -1,6 +1,6 @@
 -- A module of the form is the one that its file makes.
 use Rattle.std.proofs.Common.{◌≡◌, List, [], ◌∷◌, map, ap, ◌∙◌}
-use Rattle.p9_lang.specs.declared.module.Module.{Module}
+use Rattle.p9_first.specs.declared.module.Module.{Module}
 use Rattle.p9_first.specs.Types.{TypeTree, Meant, types_of, all_meant}
 use Rattle.p9_first.specs.Trees.{row_of}
 use Rattle.p9_first.specs.Typing.{Judged, Has, Breaks, Unknown, judged_file}

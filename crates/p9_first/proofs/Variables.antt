@@ -2,7 +2,7 @@
 use Rattle.std.proofs.Common.{◌≡◌, ◌<◌, ℕ, ◌+◌, ◌*◌, ◌/◌, ◌%◌, ◌^◌, true, [], ◌∷◌, Some, ap, ◌∙◌, arith}
 use Rattle.std.specs.Prelude.{slice_get, slice_set}
 use Rattle.p9_first.specs.Types.{TypeTree, Int, Long}
-use Rattle.p9_cmean.specs.declared.Place.{Place}
+use Rattle.p9_first.specs.declared.Place.{Place}
 use Rattle.p9_first.specs.Cells.{Into, Byte, Object, Word, State}
 use Rattle.p9_first.specs.Plays.{Done}
 use Rattle.p9_first.specs.Access.{number_of, number_cells, or_wrong, cells_within, integer_in, write_within, read_from, write_to}

@@ -4,9 +4,9 @@ use Rattle.std.specs.List.{list_any}
 use Rattle.p9_base.specs.Numbers.{sign_extended}
 use Rattle.p9_first.specs.Types.{TypeTree, Char, Short}
 use Rattle.p9_first.specs.Layout.{size_of, alignment_of}
-use Rattle.p9_cmean.specs.declared.Cause.{Cause}
-use Rattle.p9_cmean.specs.declared.Cause.TheVariants as cause
-use Rattle.p9_cmean.specs.declared.Place.{Place}
+use Rattle.p9_first.specs.declared.Cause.{Cause}
+use Rattle.p9_first.specs.declared.Cause.TheVariants as cause
+use Rattle.p9_first.specs.declared.Place.{Place}
 use Rattle.p9_first.specs.Cells.{Pointer, Null, Into, ToFunction, Cell, Unset, Byte, Part, Object, Value, Word, Address, Missing, State}
 use Rattle.p9_first.specs.Plays.{Play, Done, Wrong}
 

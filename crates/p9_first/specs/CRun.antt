@@ -1,11 +1,11 @@
 -- The run of modules: their union's `main`, in a number of turns.
 use Rattle.std.specs.Prelude.{ℕ, List, [], Option, Some, None, codes, if◌then◌else◌}
-use Rattle.p9_lang.specs.declared.module.Module.{Module}
+use Rattle.p9_first.specs.declared.module.Module.{Module}
 use Rattle.p9_first.specs.Trees.{node}
 use Rattle.p9_first.specs.Form.{is_among}
 use Rattle.p9_first.specs.Modules.{Typed, Source, sources_of, system_names}
-use Rattle.p9_cmean.specs.declared.Cause.TheVariants as cause
-use Rattle.p9_cmean.specs.declared.Place.{Place}
+use Rattle.p9_first.specs.declared.Cause.TheVariants as cause
+use Rattle.p9_first.specs.declared.Place.{Place}
 use Rattle.p9_first.specs.Cells.{FunctionName, Global, Local, Value, State}
 use Rattle.p9_first.specs.Plays.{Call, Play, Wrong}
 use Rattle.p9_first.specs.Turns.{Outcome, Ended, End, Gave, Over, Functions, calls_to}

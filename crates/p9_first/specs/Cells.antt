@@ -1,6 +1,6 @@
 -- Objects and their cells, pointers, values, and the state of a run.
 use Rattle.std.specs.Prelude.{ℕ, List, Bool}
-use Rattle.p9_cmean.specs.declared.Place.{Place}
+use Rattle.p9_first.specs.declared.Place.{Place}
 
 -- a function of file scope by its name, or a static one by its module's number and its name
 pub data FunctionName : Type 0 where

@@ -1,14 +1,14 @@
 -- Files of the form, and what their runs come to.
 use Rattle.std.specs.Prelude.{◌≡◌, ℕ, true, false, List, [], ◌∷◌, None, codes}
-use Rattle.p9_lang.specs.declared.tree.CBinary.TheVariants as operator
-use Rattle.p9_lang.specs.declared.tree.SpecWord.{SpecWord}
-use Rattle.p9_lang.specs.declared.tree.SpecWord.TheVariants as word
-use Rattle.p9_lang.specs.declared.tree.Spec.{Spec}
-use Rattle.p9_lang.specs.declared.tree.Kind.{Kind}
-use Rattle.p9_lang.specs.declared.tree.Kind.TheVariants as kind
+use Rattle.p9_first.specs.declared.tree.CBinary.TheVariants as operator
+use Rattle.p9_first.specs.declared.tree.SpecWord.{SpecWord}
+use Rattle.p9_first.specs.declared.tree.SpecWord.TheVariants as word
+use Rattle.p9_first.specs.declared.tree.Spec.{Spec}
+use Rattle.p9_first.specs.declared.tree.Kind.{Kind}
+use Rattle.p9_first.specs.declared.tree.Kind.TheVariants as kind
 use Rattle.p9_first.specs.Trees.{node, none, more, Syntax, SyntaxRow}
 use Rattle.p9_first.specs.Modules.{Source, source_from}
-use Rattle.p9_cmean.specs.declared.Cause.TheVariants as cause
+use Rattle.p9_first.specs.declared.Cause.TheVariants as cause
 use Rattle.p9_first.specs.Turns.{Ended, Out, Undefined}
 use Rattle.p9_first.specs.CRun.{source_run}
 

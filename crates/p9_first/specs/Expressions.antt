@@ -2,15 +2,15 @@
 -- yet: they are undefined.
 use Rattle.std.specs.Prelude.{zero, ℕ, List, [], ◌∷◌, None}
 use Rattle.p9_base.specs.Words.{word_sum}
-use Rattle.p9_lang.specs.declared.tree.CBinary.{CBinary}
-use Rattle.p9_lang.specs.declared.tree.CBinary.TheVariants as operator
-use Rattle.p9_lang.specs.declared.tree.Kind.TheVariants as kind
+use Rattle.p9_first.specs.declared.tree.CBinary.{CBinary}
+use Rattle.p9_first.specs.declared.tree.CBinary.TheVariants as operator
+use Rattle.p9_first.specs.declared.tree.Kind.TheVariants as kind
 use Rattle.p9_first.specs.Types.{TypeTree, Pointer, Array, Function, TypeRow, Meant, Nothing, Outer, Static, Auto, EnumValue, TypeName}
 use Rattle.p9_first.specs.Types as types
 use Rattle.p9_first.specs.Trees.{node, none, more}
 use Rattle.p9_first.specs.Modules.{Label, Typed, TypedRow}
-use Rattle.p9_cmean.specs.declared.Cause.TheVariants as cause
-use Rattle.p9_cmean.specs.declared.Place.{Place}
+use Rattle.p9_first.specs.declared.Cause.TheVariants as cause
+use Rattle.p9_first.specs.declared.Place.{Place}
 use Rattle.p9_first.specs.Cells.{FunctionName, Value, Word, Address, Missing, State}
 use Rattle.p9_first.specs.Cells as cells
 use Rattle.p9_first.specs.Plays.{Play, Done, Wrong, Ask, bind}

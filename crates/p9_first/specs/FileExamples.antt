@@ -1,9 +1,9 @@
 -- A file of the form: its tokens, the types of its nodes and its symbols.
 use Rattle.std.specs.Prelude.{◌≡◌, ℕ, true, false, List, [], ◌∷◌, None, codes}
-use Rattle.p9_lang.specs.declared.tree.CBinary.TheVariants as operator
-use Rattle.p9_lang.specs.declared.tree.SpecWord.TheVariants as word
-use Rattle.p9_lang.specs.declared.tree.Kind.{Kind}
-use Rattle.p9_lang.specs.declared.tree.Kind.TheVariants as kind
+use Rattle.p9_first.specs.declared.tree.CBinary.TheVariants as operator
+use Rattle.p9_first.specs.declared.tree.SpecWord.TheVariants as word
+use Rattle.p9_first.specs.declared.tree.Kind.{Kind}
+use Rattle.p9_first.specs.declared.tree.Kind.TheVariants as kind
 use Rattle.p9_first.specs.Trees.{node, none, Syntax, SyntaxRow, row}
 use Rattle.p9_first.specs.Tokens.{Token, Word, Number, Text, Mark, End, file_tokens}
 use Rattle.p9_first.specs.Types.{TypeTree, Void, Char, Int, Array, Function, Meant, Nothing, Outer, Static}

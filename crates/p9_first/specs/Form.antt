@@ -9,11 +9,11 @@
 --     opd  = NAME | NUMBER
 use Rattle.std.specs.Prelude.{◌≡◌, ◌≤◌, ℕ, zero, suc, ◌+◌, Bool, true, false, not, ◌&&◌, ◌||◌, ◌==◌, nat_le, IsTrue, List, [], ◌∷◌, length, None, codes}
 use Rattle.std.specs.List.{list_all, list_any}
-use Rattle.p9_lang.specs.declared.tree.CBinary.TheVariants as operator
-use Rattle.p9_lang.specs.declared.tree.SpecWord.TheVariants as word
-use Rattle.p9_lang.specs.declared.tree.SpecWord.{SpecWord}
-use Rattle.p9_lang.specs.declared.tree.Kind.{Kind}
-use Rattle.p9_lang.specs.declared.tree.Kind.TheVariants as kind
+use Rattle.p9_first.specs.declared.tree.CBinary.TheVariants as operator
+use Rattle.p9_first.specs.declared.tree.SpecWord.TheVariants as word
+use Rattle.p9_first.specs.declared.tree.SpecWord.{SpecWord}
+use Rattle.p9_first.specs.declared.tree.Kind.{Kind}
+use Rattle.p9_first.specs.declared.tree.Kind.TheVariants as kind
 use Rattle.p9_first.specs.Trees.{node, none, more, Syntax, SyntaxRow}
 use Rattle.p9_first.specs.Tokens.{front, gap, tokens}
 

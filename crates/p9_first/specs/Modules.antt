@@ -1,11 +1,11 @@
 -- Modules: trees whose nodes know their number, their type and what they stand for; and the
 -- symbols of a module.
 use Rattle.std.specs.Prelude.{length, ◌≡◌, ℕ, ◌+◌, Bool, true, false, if◌then◌else◌, List, [], ◌∷◌, ◌++◌, filter, map, flat_map, unwrap_or, slice_get, codes, decimal}
-use Rattle.p9_lang.specs.declared.tree.SpecWord.TheVariants as word
-use Rattle.p9_lang.specs.declared.tree.SpecWord.{SpecWord}
-use Rattle.p9_lang.specs.declared.tree.Kind.{Kind}
-use Rattle.p9_lang.specs.declared.tree.Kind.TheVariants as kind
-use Rattle.p9_lang.specs.declared.module.Module.{Module}
+use Rattle.p9_first.specs.declared.tree.SpecWord.TheVariants as word
+use Rattle.p9_first.specs.declared.tree.SpecWord.{SpecWord}
+use Rattle.p9_first.specs.declared.tree.Kind.{Kind}
+use Rattle.p9_first.specs.declared.tree.Kind.TheVariants as kind
+use Rattle.p9_first.specs.declared.module.Module.{Module}
 use Rattle.std.specs.List.{list_any}
 use Rattle.p9_first.specs.Types.{TypeTree, Void, Char, Array, Meant, Nothing, Outer, Static, types_of, all_meant}
 use Rattle.p9_first.specs.Trees.{Labelled, node, Row, none, more, Syntax, SyntaxRow, nodes_of, nodes_of_row, row_of}

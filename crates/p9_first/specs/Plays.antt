@@ -1,8 +1,8 @@
 -- What a function's own body does, up to the answers of the calls that it makes: a finite tree of
 -- events.
 use Rattle.std.specs.Prelude.{ℕ, zero, suc, List, Bool, if◌then◌else◌}
-use Rattle.p9_cmean.specs.declared.Cause.{Cause}
-use Rattle.p9_cmean.specs.declared.Place.{Place}
+use Rattle.p9_first.specs.declared.Cause.{Cause}
+use Rattle.p9_first.specs.declared.Place.{Place}
 use Rattle.p9_first.specs.Cells.{FunctionName, Value, State}
 
 -- a call: the function, the arguments, and the node that calls

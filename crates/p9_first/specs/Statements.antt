@@ -1,10 +1,10 @@
 -- What statements and the bodies of functions do. Statements outside the form have no clauses
 -- yet: they are undefined.
 use Rattle.std.specs.Prelude.{ℕ}
-use Rattle.p9_lang.specs.declared.tree.Kind.TheVariants as kind
+use Rattle.p9_first.specs.declared.tree.Kind.TheVariants as kind
 use Rattle.p9_first.specs.Trees.{node, none, more}
 use Rattle.p9_first.specs.Modules.{Typed, TypedRow}
-use Rattle.p9_cmean.specs.declared.Place.{Place}
+use Rattle.p9_first.specs.declared.Place.{Place}
 use Rattle.p9_first.specs.Cells.{Value, Missing, State}
 use Rattle.p9_first.specs.Plays.{Play, Done, bind, Flow, Normal, Returned, then_go}
 use Rattle.p9_first.specs.Expressions.{Surroundings, at, no_clause, value}

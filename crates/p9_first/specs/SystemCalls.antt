@@ -3,9 +3,9 @@
 use Rattle.std.specs.Prelude.{ℕ, zero, suc, ◌-◌, ◌^◌, ◌==◌, not, if◌then◌else◌, List, [], ◌∷◌, ◌++◌, map, length, take, drop, slice_get, Option, Some, None, Result, Ok, Err, codes}
 use Rattle.p9_base.specs.Words.{is_negative}
 use Rattle.p9_first.specs.Form.{same_name}
-use Rattle.p9_cmean.specs.declared.Cause.{Cause}
-use Rattle.p9_cmean.specs.declared.Cause.TheVariants as cause
-use Rattle.p9_cmean.specs.declared.Place.{Place}
+use Rattle.p9_first.specs.declared.Cause.{Cause}
+use Rattle.p9_first.specs.declared.Cause.TheVariants as cause
+use Rattle.p9_first.specs.declared.Place.{Place}
 use Rattle.p9_first.specs.Cells.{Pointer, Null, Into, ToFunction, Cell, Unset, Byte, Part, Object, Value, Word, State}
 use Rattle.p9_first.specs.Plays.{Call, Play, Done, Wrong, Exit}
 use Rattle.p9_first.specs.Access.{with_pointer, with_word, or_wrong, write_at, cells_at}

@@ -1,8 +1,8 @@
 -- Trees: the nodes of a file, each with its parts.
 use Rattle.std.specs.Prelude.{ℕ, suc, ◌+◌, List, [], ◌∷◌}
-use Rattle.p9_lang.specs.declared.tree.Kind.{Kind}
-use Rattle.p9_lang.specs.declared.tree.Node.{Node, fold-Node}
-use Rattle.p9_lang.specs.declared.tree.Node.TheOpen.{Node-F}
+use Rattle.p9_first.specs.declared.tree.Kind.{Kind}
+use Rattle.p9_first.specs.declared.tree.Node.{Node, fold-Node}
+use Rattle.p9_first.specs.declared.tree.Node.TheOpen.{Node-F}
 
 -- a node with its kind, what is known of it, and its parts in order
 mutual

@@ -1,7 +1,7 @@
 -- Calls: the turns that they take, the room that they need, and how a run ends.
 use Rattle.std.specs.Prelude.{ℕ, zero, suc, ◌+◌, List, nat_lt, if◌then◌else◌}
-use Rattle.p9_cmean.specs.declared.Cause.{Cause}
-use Rattle.p9_cmean.specs.declared.Place.{Place}
+use Rattle.p9_first.specs.declared.Cause.{Cause}
+use Rattle.p9_first.specs.declared.Place.{Place}
 use Rattle.p9_first.specs.Cells.{FunctionName, Value, State}
 use Rattle.p9_first.specs.Plays.{Call, Play, Done, Wrong, Exit, Cut, Turn, Ask, Moved}
 

@@ -1,9 +1,9 @@
 -- Types of C, and what a node stands for, as plain data.
 use Rattle.std.specs.Prelude.{ℕ, List, [], ◌∷◌}
-use Rattle.p9_lang.specs.declared.types.CType.{CType, fold-CType}
-use Rattle.p9_lang.specs.declared.types.CType.TheOpen.{CType-F}
-use Rattle.p9_lang.specs.declared.module.Bind.{Bind}
-use Rattle.p9_lang.specs.declared.module.Bind.TheVariants as bind
+use Rattle.p9_first.specs.declared.types.CType.{CType, fold-CType}
+use Rattle.p9_first.specs.declared.types.CType.TheOpen.{CType-F}
+use Rattle.p9_first.specs.declared.module.Bind.{Bind}
+use Rattle.p9_first.specs.declared.module.Bind.TheVariants as bind
 
 mutual
   pub data TypeTree : Type 0 where

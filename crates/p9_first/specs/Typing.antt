@@ -2,11 +2,11 @@
 -- clauses yet; in a file of the form no rule is broken.
 use Rattle.std.specs.Prelude.{ℕ, ◌+◌, Bool, true, false, ◌||◌, nat_le, if◌then◌else◌, List, [], ◌∷◌, ◌++◌, length, sum, map, None, codes}
 use Rattle.std.specs.List.{list_any}
-use Rattle.p9_lang.specs.declared.tree.CBinary.TheVariants as operator
-use Rattle.p9_lang.specs.declared.tree.SpecWord.TheVariants as word
-use Rattle.p9_lang.specs.declared.tree.SpecWord.{SpecWord}
-use Rattle.p9_lang.specs.declared.tree.Kind.{Kind}
-use Rattle.p9_lang.specs.declared.tree.Kind.TheVariants as kind
+use Rattle.p9_first.specs.declared.tree.CBinary.TheVariants as operator
+use Rattle.p9_first.specs.declared.tree.SpecWord.TheVariants as word
+use Rattle.p9_first.specs.declared.tree.SpecWord.{SpecWord}
+use Rattle.p9_first.specs.declared.tree.Kind.{Kind}
+use Rattle.p9_first.specs.declared.tree.Kind.TheVariants as kind
 use Rattle.p9_first.specs.Types.{TypeTree, Void, Char, UChar, Short, UShort, Int, UInt, Long, ULong, Pointer, Array, Function, Tagged, TypeRow, Meant, Nothing, Outer, Static, Auto, EnumValue, TypeName}
 use Rattle.p9_first.specs.Types as types
 use Rattle.p9_first.specs.Trees.{Labelled, node, Row, none, more, Syntax, SyntaxRow}

@@ -14,7 +14,7 @@ use Rattle.p9_form.specs.declared.file.Operand.TheVariants.{Variable, Number}
 use Rattle.p9_form.specs.declared.file.Statement.{Statement}
 use Rattle.p9_form.specs.declared.file.Statement.TheVariants.{Assign, Write, Exits}
 use Rattle.p9_form.specs.Items.{number_leaf, text_leaf, operand_tree, sum_tree, effect_tree, statement_tree, statement_trees, statement_size}
-use Rattle.p9_cmean.specs.declared.Place.{Place}
+use Rattle.p9_first.specs.declared.Place.{Place}
 use Rattle.p9_first.specs.Cells.{Global, Into, Null, Object, Value, Word, Address, State, ToFunction}
 use Rattle.p9_first.specs.Plays.{Call, Done, bind, Normal, then_go, Flow, Play}
 use Rattle.p9_first.specs.Turns.{Outcome, Deep, Gave, Over, End, and_then, resolve, calls_to}

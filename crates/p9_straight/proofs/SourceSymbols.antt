@@ -1,7 +1,7 @@
 -- The symbols of a file's module.
 use Rattle.std.proofs.Common.{◌≡◌, ℕ, Bool, true, false, if◌then◌else◌, List, [], ◌∷◌, ◌++◌, map, Some, None, Option, refl, sym, ap, ◌∙◌, subst, append_assoc}
 use Rattle.std.specs.Prelude.{codes, filter}
-use Rattle.p9_lang.specs.declared.tree.Kind.TheVariants as kind
+use Rattle.p9_first.specs.declared.tree.Kind.TheVariants as kind
 use Rattle.p9_first.specs.Types.{TypeTree}
 use Rattle.p9_first.specs.Trees.{node, none}
 use Rattle.p9_first.specs.Form.{same_name, is_among, is_variable_name}

@@ -1,8 +1,8 @@
 -- What the items of a file's module declare, and the texts in them.
 use Rattle.std.proofs.Common.{◌≡◌, ℕ, ◌+◌, Bool, true, false, ◌||◌, if◌then◌else◌, List, [], ◌∷◌, ◌++◌, map, Some, None, Option, refl, sym, ap, ◌∙◌, subst, arith, append-nil}
 use Rattle.std.specs.Prelude.{codes, flat_map}
-use Rattle.p9_lang.specs.declared.tree.Spec.{Spec}
-use Rattle.p9_lang.specs.declared.tree.Kind.TheVariants as kind
+use Rattle.p9_first.specs.declared.tree.Spec.{Spec}
+use Rattle.p9_first.specs.declared.tree.Kind.TheVariants as kind
 use Rattle.p9_first.specs.Types.{TypeTree, Void, Int, Long, Function, Outer}
 use Rattle.p9_first.specs.Types as types
 use Rattle.p9_first.specs.Trees.{node, none, more, SyntaxRow, nodes_of}

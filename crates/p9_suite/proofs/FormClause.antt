@@ -9,8 +9,8 @@ use Rattle.p9_base.specs.Outside.{FileCall, WriteCall}
 use Rattle.p9_base.specs.SystemCalls.{State, state, exit_text}
 use Rattle.p9_base.specs.declared.halt.Ending.{Ending}
 use Rattle.p9_base.specs.declared.halt.Ending.TheVariants as endings
-use Rattle.p9_cmean.specs.declared.Cause.{Cause}
-use Rattle.p9_cmean.specs.declared.Place.{Place}
+use Rattle.p9_first.specs.declared.Cause.{Cause}
+use Rattle.p9_first.specs.declared.Place.{Place}
 use Rattle.p9_first.specs.CRun.{source_run}
 use Rattle.p9_first.specs.Modules.{Source}
 use Rattle.p9_first.specs.Turns.{Outcome}

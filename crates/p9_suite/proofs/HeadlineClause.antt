@@ -11,7 +11,7 @@ use Rattle.p9_first.specs.Modules as modules
 use Rattle.p9_form.specs.declared.file.File.{File}
 use Rattle.p9_form.specs.Items.{items_of, source_of}
 use Rattle.p9_headline.specs.Headline.{KeepsMeaning}
-use Rattle.p9_lang.specs.declared.module.Module.{Module}
+use Rattle.p9_first.specs.declared.module.Module.{Module}
 use Rattle.p9_abs.specs.BuiltIn.{linked}
 use Rattle.p9_names.specs.Answers.{Joins}
 use Rattle.p9_share.specs.Symbols.{module_of}

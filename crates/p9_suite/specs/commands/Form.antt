@@ -4,15 +4,15 @@ use Rattle.std.specs.Prelude.{◌≡◌, ◌≢◌, ◌≤◌, ℕ, true, List, 
 use Rattle.p9_base.specs.CallBytes.{IsSteady, brought_in, written_in}
 use Rattle.p9_base.specs.Calls.{StreamCall, OnStream, OnFiles, Did}
 use Rattle.p9_base.specs.Outside.{FileCall, WriteCall}
-use Rattle.p9_cmean.specs.declared.Cause.{Cause}
-use Rattle.p9_cmean.specs.declared.Place.{Place}
+use Rattle.p9_first.specs.declared.Cause.{Cause}
+use Rattle.p9_first.specs.declared.Place.{Place}
 use Rattle.p9_first.specs.CRun.{source_run}
 use Rattle.p9_first.specs.Modules.{Source, sources_of}
 use Rattle.p9_first.specs.Turns as outcome
 use Rattle.p9_form.specs.declared.file.File.{File}
 use Rattle.p9_form.specs.Items.{source_of}
 use Rattle.p9_headline.specs.declared.TheConstants.{DEFAULT_BUDGET}
-use Rattle.p9_lang.specs.declared.module.Module.{Module}
+use Rattle.p9_first.specs.declared.module.Module.{Module}
 use Rattle.p9_suite.specs.declared.answer.Answer.{Answer}
 use Rattle.p9_suite.specs.CommandLine.{Run, RunCommand}
 use Rattle.p9_suite.specs.Scene.{Scene, IsAnswer, HasPut, command, left, left_now, has_run}

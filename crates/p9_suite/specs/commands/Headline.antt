@@ -8,7 +8,7 @@ use Rattle.p9_form.specs.declared.file.File.{File}
 use Rattle.p9_form.specs.Items.{items_of}
 use Rattle.p9_form.specs.Spelling.{HasForm}
 use Rattle.p9_headline.specs.Headline.{KeepsMeaning}
-use Rattle.p9_lang.specs.declared.module.Module.{Module}
+use Rattle.p9_first.specs.declared.module.Module.{Module}
 use Rattle.p9_straight.specs.Headline.{union_run}
 use Rattle.p9_suite.specs.CommandLine.{Run, RunCommand}
 use Rattle.p9_suite.specs.Scene.{Scene, command, held, held_now}
