@@ -54,6 +54,7 @@ module _ (ms : List AModule) (linkable : AreLinkable ms) (once : IsKept Once ms)
     where
       order : (a b : ℕ) → (a < b) ⊎ ((a ≡ b) ⊎ (b < a))
       order a b = grind (arith)
+
       by : ((d.«module» < e.«module») ⊎ ((d.«module» ≡ e.«module») ⊎ (e.«module» < d.«module»))) → d ≡ e
       by (inl l) = absurd (full-once d e x y h k l)
       by (inr (inl same)) = (listing ms linkable).single name d e x.symbol y.symbol x.occurs y.occurs same
