@@ -2,14 +2,14 @@
 -- return, as a game over the steps of the code given.
 use Rattle.std.specs.Prelude.{ℕ, zero, suc, ◌+◌, ◌-◌, ◌*◌, ◌%◌, ◌^◌, ◌==◌, ◌&&◌, ◌||◌, ◌≡◌, ◌≤◌, ◌<◌, nat_le, nat_lt, if◌then◌else◌, Bool, true, false, Option, Some, None, List, [], ◌∷◌, length, slice_get, slice_index}
 use Rattle.p9_base.specs.Core.{Core, stack_start, stack_end, reg, read_byte, read_half, read_word}
-use Rattle.p9_base.specs.Holding.{HoldsWords, AreBytes}
+use Rattle.p9_base.specs.Holding.{HoldsWords, AreBytes, LaidOut}
 use Rattle.p9_base.specs.SystemCalls.{State, exit_text}
 use Rattle.p9_abs.specs.declared.instructions.Abs.{Abs}
 use Rattle.p9_abs.specs.declared.instructions.AFunction.{AFunction}
 use Rattle.p9_abs.specs.declared.instructions.TextDef.{TextDef}
 use Rattle.p9_abs.specs.declared.regions.Region.{Region}
 use Rattle.p9_abs.specs.Automatics.{is_variable}
-use Rattle.p9_abs.specs.Steps.{Mach, Around, Step, Next, Turns, Calls, Returns, Exits, Undefined, step}
+use Rattle.p9_abs.specs.Steps.{Mach, Around, Step, Next, Turns, Calls, Returns, Exits, Undefined, step, without_text}
 use Rattle.p9_abs.specs.Runs.{keeps, taken_by, in_word}
 use Rattle.p9_abs.specs.OneCall.{Layout, around_call, size_at}
 use Rattle.p9_abs.specs.Framed.{Plan, IsFramed}
@@ -25,6 +25,13 @@ pub record SameMemory (apart : ℕ → Bool) (x y : State) : Type 0 where
   pub data_start : x.core.data_start ≡ y.core.data_start
   pub input : x.left ≡ y.left
   pub output : x.out ≡ y.out
+
+-- a call leaves how memory lies
+pub record SameSizes (x u : State) : Type 0 where
+  pub order : u.core.order ≡ x.core.order
+  pub data_start : u.core.data_start ≡ x.core.data_start
+  pub low : length u.core.low ≡ length x.core.low
+  pub stack : length u.core.stack ≡ length x.core.stack
 
 -- what a caller and a callee see at a call or return
 pub record Meet (apart : ℕ → Bool) (x y : Mach) : Type 0 where
@@ -43,7 +50,7 @@ pub record Answers (apart : ℕ → Bool) (x y u w : Mach) : Type 0 where
   pub base : reg u.state.core 30 ≡ reg x.state.core 30
   pub memory : SameMemory apart u.state w.state
   pub words : HoldsWords u.state.core × HoldsWords w.state.core
-  pub stack_size : length u.state.core.stack ≡ length x.state.core.stack
+  pub sizes : SameSizes x.state u.state
   pub variables : (u.vars ≡ x.vars) × (w.vars ≡ y.vars)
   pub kept : (a : ℕ) → apart a ≡ true → read_byte w.state.core a ≡ read_byte y.state.core a
   pub on : (u.at ≡ x.at) × (w.at ≡ y.at)
@@ -96,7 +103,7 @@ pub record IsEntry (frame : ℕ) (others : ℕ → Bool) (x : Mach) : Type 0 whe
   pub first : x.at ≡ 0
   pub words : HoldsWords x.state.core
   pub input : AreBytes x.state.left
-  pub stack_size : length x.state.core.stack ≡ stack_end - stack_start
+  pub laid : (let y : Mach = without_text x in LaidOut y.state.core)
   pub fourfold : reg x.state.core 29 % 4 ≡ 0
   pub low : stack_start ≤ reg x.state.core 29
   pub high : reg x.state.core 29 + frame + 4 ≤ stack_end

@@ -66,17 +66,24 @@ in_automatic (p ∷ ps) [] b = false
 in_automatic (None ∷ ps) (size ∷ sizes) b = in_automatic ps sizes b
 in_automatic (Some p ∷ ps) (size ∷ sizes) b = (nat_le p b && nat_lt b (p + size)) || in_automatic ps sizes b
 
--- it is one of the words o(R29) that a form names
+-- it is one of the word o(R29)
+abbrev pub in_word_at : ℕ → ℕ → Bool
+in_word_at o b = nat_le o b && nat_lt b (o + 4)
+
 abbrev pub in_stack_word : ℕ → Location → Bool
-in_stack_word b (Based r o) = (r == 29) && (nat_le o b && nat_lt b (o + 4))
+in_stack_word b (Based r o) = (r == 29) && in_word_at o b
 in_stack_word b _ = false
 
+-- it is one of a word that a form uses: that of its memory operand, and at a call the place of the
+-- first argument, which is passed in R1
 abbrev pub in_word_of : ℕ → Form → Bool
 in_word_of b (forms.Load w from to) = in_stack_word b from
 in_word_of b (forms.Store w from to) = in_stack_word b to
+in_word_of b (forms.Call s) = in_word_at 4 b
+in_word_of b (forms.CallRegister a) = in_word_at 4 b
 in_word_of b _ = false
 
--- one of the first m instructions that can be reached names a word with byte b
+-- one of the first m instructions that can be reached uses a word with byte b
 abbrev pub in_words_below : List Abs → ℕ → ℕ → Bool
 in_words_below code b zero = false
 in_words_below code b (suc m) = (reached code m && holds_of (in_word_of b) (form_at code m)) || in_words_below code b m
@@ -84,7 +91,7 @@ in_words_below code b (suc m) = (reached code m && holds_of (in_word_of b) (form
 abbrev pub in_words : List Abs → ℕ → Bool
 in_words code b = in_words_below code b (length code)
 
--- byte b of the own frame, above R29 = sp, is no automatic's and in no word that is named
+-- byte b of the own frame, above R29 = sp, is no automatic's and in no word that is used
 abbrev pub in_gap : AFunction → Layout → ℕ → ℕ → Bool
 in_gap f l sp b =
     (nat_le (sp + 4) b && nat_lt b (sp + 4 + l.frame))

@@ -176,13 +176,12 @@ addresses_of modules p = record {
 abbrev pub IsCodeAddress : ℕ → Type 0
 IsCodeAddress a = (a % 4 ≡ 0) × (text_start ≤ a) × (a < 2 ^ 28)
 
--- of one function: its own address, then those of its instructions, which never fall
+-- of one function: its own address, then those of its instructions, which never fall and lie before the data
 pub record IsFunctionPlaced (p : Placing) (f : ℕ) (r : Routine) : Type 0 where
   pub function : IsCodeAddress (p.function f)
   pub instructions : (k : ℕ) → k < length r.def.code → IsCodeAddress (p.instruction f k)
   pub first : (k : ℕ) → k < length r.def.code → p.function f ≤ p.instruction f k
   pub rising : (j k : ℕ) → j ≤ k → k < length r.def.code → p.instruction f j ≤ p.instruction f k
-  -- an instruction's lines come before the place that its call returns to
   pub before_data : (k : ℕ) → k < length r.def.code → p.instruction f k < p.data_start
 
 -- a placing of the modules' functions and data

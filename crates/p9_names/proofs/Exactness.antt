@@ -15,7 +15,7 @@ use Rattle.p9_names.specs.Answers.{Joins, IsRefusal}
 use Rattle.p9_names.proofs.Lists.{before-irrefl, before-trans}
 use Rattle.p9_names.proofs.Breaking.{same_symbol, not_both}
 
-not_after-both : (d e : Def) → IsNotAfter d e → IsNotAfter e d → d ≡ e
+pub not_after-both : (d e : Def) → IsNotAfter d e → IsNotAfter e d → d ≡ e
 not_after-both d e (inl p) q = p
 not_after-both d e (inr p) (inl q) = sym q
 not_after-both d e (inr p) (inr q) = absurd (before-irrefl d (before-trans d e d p q))

@@ -7,3 +7,4 @@ pub mod Steps
 pub mod Answering
 pub mod Exactness
 mod BuiltInModule
+pub mod OneChoice

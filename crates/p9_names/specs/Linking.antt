@@ -8,6 +8,7 @@ use Rattle.p9_abs.specs.declared.modules.Def.{Def}
 use Rattle.p9_abs.specs.declared.modules.Symbol.{Symbol}
 use Rattle.p9_abs.specs.declared.modules.AModule.{AModule}
 use Rattle.p9_abs.specs.Names.{Occurs, IsBefore, IsNotAfter, Defines, IsUndefined, IsFirstDefinition, IsChosen, module_names}
+use Rattle.p9_abs.specs.Programs.{chosen}
 use Rattle.p9_names.specs.declared.rules.Rule.{Rule}
 use Rattle.p9_names.specs.Rules.{breaks, is_main, main_name}
 
@@ -92,3 +93,7 @@ pub record IsTable (ms : List AModule) (entries : List (List ℕ × Def)) : Type
   pub chosen : All (λ entry. IsChosen ms entry.0 entry.1) entries
   pub complete : (name : List ℕ) (d : Def) → Defines ms name d → IsSome (lookup (bytes_eq name) entries)
   pub ordered : AllPairs (λ a b. IsDefinedBefore ms a.0 b.0) entries
+
+-- each entry is the definition that the run of the modules goes by
+abbrev pub ChoosesAll : List AModule → List (List ℕ × Def) → Type 0
+ChoosesAll ms entries = All (λ entry. chosen ms entry.0 ≡ Some entry.1) entries

@@ -3,7 +3,7 @@ ghost use Rattle.std.specs.Prelude.{◌≡◌, ◌≢◌, ◌⊎◌, ◌<◌, �
 ghost use Rattle.p9_names.specs.declared.table.LinkFault.{LinkFault};
 ghost use Rattle.p9_names.specs.declared.table.LinkFault.TheVariants.{Memory};
 ghost use Rattle.p9_abs.specs.Validity.{IsValid};
-ghost use Rattle.p9_names.specs.Linking.{HasMain, AllResolved, IsTable};
+ghost use Rattle.p9_names.specs.Linking.{HasMain, AllResolved, IsTable, ChoosesAll};
 ghost use Rattle.p9_names.specs.Passes.{AreLinkable, globals_of, IsMainFault, IsUseFault};
 ghost use Rattle.p9_abs.specs.BuiltIn.{linked};
 ghost use Rattle.p9_names.specs.Answers.{Joins, IsRefusal};
@@ -85,6 +85,9 @@ pub fn resolve(alloc: Global, modules: &Vec<AModule>) -> Result<Table, LinkFault
     ensures joined { IfOk result (λ _. Joins (linked modules.now.items)) }
     ensures table { IfOk result (λ t. IsTable (linked modules.now.items) t.defs.entries) }
     ensures refused { IfErr result (IsRefusal (linked modules.now.items)) }
+
+    // The table's definition of a name is the one that the run of the modules goes by.
+    ensures chosen { IfOk result (λ t. ChoosesAll (linked modules.now.items) t.defs.entries) }
 
     // A cause that holds, with none before it in the order, is the answer, unless memory ran out.
     ensures refused_exactly { (fault : LinkFault) → fault ≢ Memory → IsRefusal (linked modules.now.items) fault → (result ≡ Err fault) ⊎ (result ≡ Err Memory) }

@@ -13,6 +13,6 @@ mod uses;
 
 pub use builtin_module::builtin;
 pub use joining::resolve;
-pub use rules::Rule;
 pub use p9_abs::Def;
+pub use rules::Rule;
 pub use table::{LinkFault, Table};
