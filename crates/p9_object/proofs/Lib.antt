@@ -9,3 +9,4 @@ mod Objects
 mod Widths
 mod Fitting
 pub mod Reading
+pub mod Examples

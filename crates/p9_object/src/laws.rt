@@ -1,5 +1,6 @@
 // What the answers of the objects' reader mean. Each function does nothing; its contract is the law.
 ghost use Rattle.p9_object.specs.Laws.{ReadsWhatIsSpelled, ReadsOnlySpellings, BreaksAtFirst, TellsVersions};
+ghost use Rattle.p9_object.specs.Examples.{SmallObjects};
 
 /// The bytes of a module's object are read as that module, and no other bytes are read as a module.
 pub fn objects_have_one_spelling()
@@ -13,4 +14,11 @@ pub fn objects_have_one_spelling()
 pub fn faults_tell_the_first_break()
     ensures place { BreaksAtFirst }
     ensures version { TellsVersions }
+{}
+
+/// Two small objects: their bytes, and what is read of them cut at each byte, with a byte more, and with
+/// another magic or version.
+#[tactic(auto, using(crate::proofs::Examples::small_objects))]
+pub fn small_objects()
+    ensures { SmallObjects }
 {}

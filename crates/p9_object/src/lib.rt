@@ -5,4 +5,4 @@
 
 mod laws;
 
-pub use laws::{faults_tell_the_first_break, objects_have_one_spelling};
+pub use laws::{faults_tell_the_first_break, objects_have_one_spelling, small_objects};
