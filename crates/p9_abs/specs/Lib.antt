@@ -10,3 +10,6 @@ pub mod Runs
 pub mod OneCall
 pub mod Framed
 pub mod Keeping
+pub mod Programs
+pub mod Laws
+pub mod Examples

@@ -48,7 +48,6 @@ pub record IsChosen (ms : List AModule) (name : List ℕ) (d : Def) : Type 0 whe
   pub defines : Defines ms name d
   pub common : is_full defines.symbol.body ≡ false → (e : Def) → (other : Defines ms name e) → (is_full other.symbol.body ≡ false) × IsNotAfter d e
 
-
 -- Names in bodies
 
 abbrev pub is_number : ℕ → Option ℕ → Bool

@@ -310,7 +310,11 @@ fn call(operands: &[Operand]) -> Option<Form>
 fn bare(form: Form, operands: &[Operand]) -> Option<Form>
     ensures { result ≡ bare form (map operand_kind operands.now) }
 {
-    if operands.is_empty() { Some(form) } else { None }
+    if operands.is_empty() {
+        Some(form)
+    } else {
+        None
+    }
 }
 
 /// The form that an operation and its operands are, by the table, or none.

@@ -4,8 +4,11 @@
 
 mod forms;
 mod instructions;
+mod laws;
 mod modules;
 mod regions;
+#[cfg(test)]
+mod tests;
 mod weights;
 
 pub use forms::{
@@ -13,6 +16,7 @@ pub use forms::{
     form_of, operand_kind,
 };
 pub use instructions::{AFunction, Abs, Autos, Code, Depths, Op, Operand, Operands, TextDef};
+pub use laws::{code_laws, live_examples, program_laws, step_laws, undefined_examples};
 pub use modules::{AModule, Body, DataPiece, Def, Pieces, Symbol, Symbols};
 pub use regions::{Homes, Points, Region, Regions};
 pub use weights::{weight, words_of};

@@ -6,3 +6,4 @@ pub mod Agreed
 pub mod Steps
 pub mod Answering
 pub mod Exactness
+mod BuiltInModule

@@ -1,6 +1,6 @@
 -- Laws of the machines' runs.
 use Rattle.std.specs.Prelude.{ℕ, ◌+◌, ◌-◌, ◌^◌, ◌≡◌, ◌≤◌, ◌++◌, List, length, take}
-pub use Rattle.p9_base.specs.Holding.{AreWords, AreBytes, HoldsWords}
+pub use Rattle.p9_base.specs.Holding.{AreWords, AreBytes, HoldsWords, LaidOut, KeepsText}
 use Rattle.p9_base.specs.declared.order.ByteOrder.{ByteOrder}
 use Rattle.p9_base.specs.declared.halt.Ending.{Ending}
 use Rattle.p9_base.specs.declared.halt.Ending.TheVariants.{Running, Exited, Halted}
@@ -35,23 +35,6 @@ OutputGrows = (n : ℕ) (s : State) → Extends s.out (run n s).out
 
 abbrev pub InputShrinks : Type 0
 InputShrinks = (n : ℕ) (s : State) → EndsWith s.left (run n s).left
-
--- text, data and stack lie one behind the other
-pub record LaidOut (c : Core) : Type 0 where
-  pub text : text_start ≤ c.text_end
-  pub gap : c.text_end ≤ c.data_start
-  pub data_and_bss : c.data_start ≤ low_end c
-  pub above : low_end c ≤ stack_start
-  pub stack_size : length c.stack ≡ stack_end - stack_start
-
--- the byte order, the addresses and the sizes are the same, and so is every byte below the data
-pub record KeepsText (c d : Core) : Type 0 where
-  pub order : d.order ≡ c.order
-  pub text_end : d.text_end ≡ c.text_end
-  pub data_start : d.data_start ≡ c.data_start
-  pub low_size : length d.low ≡ length c.low
-  pub stack_size : length d.stack ≡ length c.stack
-  pub below_data : take (c.data_start - text_start) d.low ≡ take (c.data_start - text_start) c.low
 
 abbrev pub TextStays : Type 0
 TextStays = (n : ℕ) (s : State) → LaidOut s.core → KeepsText s.core (run n s).core
