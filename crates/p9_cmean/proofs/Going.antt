@@ -82,10 +82,10 @@ turns_keep zero loop h s = (goes_refl s, goes_refl s)
 turns_keep (suc m) loop h s = (
   goes_refl s,
   keeps_bind s (loop.body s) _ (h.bodies s) (λ flow t.
-  keeps_after flow t _ (λ u.
-  keeps_bind u (loop.step u) _ (h.steps u) (λ done w.
-  keeps_bind w (loop.test w) _ (h.tests w) (λ holds x.
-  keeps_if x holds (turn_of m loop x) (Done Normal x) (turns_keep m loop h x) (goes_refl x))))),
+      keeps_after flow t _ (λ u.
+      keeps_bind u (loop.step u) _ (h.steps u) (λ done w.
+      keeps_bind w (loop.test w) _ (h.tests w) (λ holds x.
+      keeps_if x holds (turn_of m loop x) (Done Normal x) (turns_keep m loop h x) (goes_refl x))))),
 )
 
 pub tested_keeps : (m : ℕ) (loop : Loop) → LoopKeeps loop → (s : State) → Keeps s (tested_loop m loop s)

@@ -2,3 +2,8 @@ pub mod Plays
 pub mod Calls
 pub mod Going
 pub mod Later
+pub mod Throughout
+pub mod Bodies
+pub mod Fitting
+pub mod Runs
+pub mod Accesses

@@ -2,7 +2,7 @@
 use Rattle.std.proofs.Common.{◌≡◌, ◌≤◌, ℕ, zero, suc, Bool, true, false, if◌then◌else◌, refl, sym, ap, subst, arith}
 use Rattle.p9_cmean.specs.Cells.{State}
 use Rattle.p9_cmean.specs.Plays.{Play, Done, Wrong, NoMeaning, Exit, Cut, Turn, Ask, Moved, bind, Flow, Normal, Broke, Continued, Returned, Went, after_turn, after_switch, then_go, Loop, turn_of, tested_loop}
-use Rattle.p9_cmean.specs.PlayLaws.{BindIsAssociative, Follows, LoopFollows, LoopsFollow, Lasts, LoopLasts, LoopsLast}
+use Rattle.p9_cmean.specs.PlayLaws.{BindIsAssociative, Follows, LoopFollows, LoopsFollow, TestedLoopsFollow, Lasts, LoopLasts, LoopsLast, TestedLoopsLast}
 
 pub bind_assoc : {A B C : Type 0} (p : Play A) (k : A → State → Play B) (l : B → State → Play C) → bind (bind p k) l ≡ bind p (λ x s. bind (k x s) l)
 bind_assoc (Done x s) k l = refl
@@ -98,31 +98,28 @@ after_body : (turns : ℕ) → Loop → Flow → State → Play Flow
 after_body turns loop flow t =
     after_turn flow t (λ u. bind (loop.step u) (λ done w. bind (loop.test w) (λ holds x. if holds then turn_of turns loop x else Done Normal x)))
 
-turns_follow : (m n : ℕ) → m ≤ n → (a b : Loop) → LoopFollows m a b → (s : State) → Follows m (turn_of m a s) (turn_of n b s)
+pub loops_follow : LoopsFollow
 unfolding after_body
-turns_follow zero zero le a b h s = (Cut s, refl)
-turns_follow zero (suc n) le a b h s = (bind (b.body s) (after_body n b), refl)
-turns_follow (suc m) zero le a b h s = absurd (omega arith)
-turns_follow (suc m) (suc n) le a b h s =
-    let less : LoopFollows m a b = loop_follows_less (suc m) m (omega arith) a b h in
-    (
+loops_follow zero zero le a b h s = (Cut s, refl)
+loops_follow zero (suc n) le a b h s = (bind (b.body s) (after_body n b), refl)
+loops_follow (suc m) zero le a b h s = absurd (omega arith)
+loops_follow (suc m) (suc n) le a b h s =
+    let less : LoopFollows m a b = loop_follows_less (suc m) m (omega arith) a b h in (
       bind (b.body s) (after_body n b),
       refl,
       follows_bind m (a.body s) (b.body s) (after_body m a) (after_body n b) (less.bodies s) (λ flow t.
-      follows_after m flow t (λ u. bind (a.step u) (λ done w. bind (a.test w) (λ holds x. if holds then turn_of m a x else Done Normal x)))
-      (λ u. bind (b.step u) (λ done w. bind (b.test w) (λ holds x. if holds then turn_of n b x else Done Normal x))) (λ u.
-      follows_bind m (a.step u) (b.step u) (λ done w. bind (a.test w) (λ holds x. if holds then turn_of m a x else Done Normal x))
-      (λ done w. bind (b.test w) (λ holds x. if holds then turn_of n b x else Done Normal x)) (less.steps u) (λ done w.
-      follows_bind m (a.test w) (b.test w) (λ holds x. if holds then turn_of m a x else Done Normal x) (λ holds x. if holds then turn_of n b x else Done Normal x) (less.tests w) (λ holds x.
-      follows_if m holds (turn_of m a x) (turn_of n b x) (Done Normal x) (Done Normal x) (turns_follow m n (omega arith) a b less x) refl)))),
+          follows_after m flow t (λ u. bind (a.step u) (λ done w. bind (a.test w) (λ holds x. if holds then turn_of m a x else Done Normal x)))
+          (λ u. bind (b.step u) (λ done w. bind (b.test w) (λ holds x. if holds then turn_of n b x else Done Normal x))) (λ u.
+          follows_bind m (a.step u) (b.step u) (λ done w. bind (a.test w) (λ holds x. if holds then turn_of m a x else Done Normal x))
+          (λ done w. bind (b.test w) (λ holds x. if holds then turn_of n b x else Done Normal x)) (less.steps u) (λ done w.
+          follows_bind m (a.test w) (b.test w) (λ holds x. if holds then turn_of m a x else Done Normal x) (λ holds x. if holds then turn_of n b x else Done Normal x) (less.tests w) (λ holds x.
+          follows_if m holds (turn_of m a x) (turn_of n b x) (Done Normal x) (Done Normal x) (loops_follow m n (omega arith) a b less x) refl)))),
     )
 
-pub loops_follow : LoopsFollow
-loops_follow m n le a b h s = (
-  turns_follow m n le a b h s,
-  follows_bind m (a.test s) (b.test s) (λ holds t. if holds then turn_of m a t else Done Normal t) (λ holds t. if holds then turn_of n b t else Done Normal t) (h.tests s) (λ holds t.
-  follows_if m holds (turn_of m a t) (turn_of n b t) (Done Normal t) (Done Normal t) (turns_follow m n le a b h t) refl),
-)
+pub tested_loops_follow : TestedLoopsFollow
+tested_loops_follow m n le a b h s =
+    follows_bind m (a.test s) (b.test s) (λ holds t. if holds then turn_of m a t else Done Normal t) (λ holds t. if holds then turn_of n b t else Done Normal t) (h.tests s) (λ holds t.
+    follows_if m holds (turn_of m a t) (turn_of n b t) (Done Normal t) (Done Normal t) (loops_follow m n le a b h t) refl)
 
 -- LASTING
 
@@ -178,19 +175,17 @@ loop_lasts_less m n le loop h = record {
   steps = λ s. lasts_less (loop.step s) m n le (h.steps s);
 }
 
-turns_last : (m : ℕ) (loop : Loop) → LoopLasts m loop → (s : State) → Lasts (suc m) (turn_of m loop s)
+pub loops_last : LoopsLast
 unfolding after_body
-turns_last zero loop h s = tt
-turns_last (suc m) loop h s =
+loops_last zero loop h s = tt
+loops_last (suc m) loop h s =
     lasts_bind (loop.body s) (after_body m loop) (suc m) (h.bodies s) (λ flow t.
     lasts_after (suc m) flow t (λ u. bind (loop.step u) (λ done w. bind (loop.test w) (λ holds x. if holds then turn_of m loop x else Done Normal x))) (λ u.
     lasts_bind (loop.step u) (λ done w. bind (loop.test w) (λ holds x. if holds then turn_of m loop x else Done Normal x)) (suc m) (h.steps u) (λ done w.
     lasts_bind (loop.test w) (λ holds x. if holds then turn_of m loop x else Done Normal x) (suc m) (h.tests w) (λ holds x.
-    lasts_if (suc m) holds (turn_of m loop x) (Done Normal x) (turns_last m loop (loop_lasts_less (suc m) m (omega arith) loop h) x) tt))))
+    lasts_if (suc m) holds (turn_of m loop x) (Done Normal x) (loops_last m loop (loop_lasts_less (suc m) m (omega arith) loop h) x) tt))))
 
-pub loops_last : LoopsLast
-loops_last m loop h s = (
-  turns_last m loop (loop_lasts_less (suc m) m (omega arith) loop h) s,
-  lasts_bind (loop.test s) (λ holds t. if holds then turn_of m loop t else Done Normal t) (suc m) (h.tests s) (λ holds t.
-  lasts_if (suc m) holds (turn_of m loop t) (Done Normal t) (turns_last m loop (loop_lasts_less (suc m) m (omega arith) loop h) t) tt),
-)
+pub tested_loops_last : TestedLoopsLast
+tested_loops_last m loop h s =
+    lasts_bind (loop.test s) (λ holds t. if holds then turn_of m loop t else Done Normal t) (suc m) (h.tests s) (λ holds t.
+    lasts_if (suc m) holds (turn_of m loop t) (Done Normal t) (loops_last m loop (loop_lasts_less (suc m) m (omega arith) loop h) t) tt)

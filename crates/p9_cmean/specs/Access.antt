@@ -1,8 +1,9 @@
 -- Access to the cells of objects, and what pointers may be used for. An operation gives what it
 -- gives, or the cause for which it is undefined; where it has several, the first in the order Null,
 -- Dead, Misaligned, Range, Overlap, Unset, Mixed.
-use Rattle.std.specs.Prelude.{ℕ, zero, suc, ◌+◌, ◌-◌, ◌*◌, ◌/◌, ◌%◌, ◌^◌, ◌==◌, ◌&&◌, nat_lt, if◌then◌else◌, Bool, true, false, not, List, [], ◌∷◌, ◌++◌, length, take, drop, slice_get, slice_set, unwrap_or, Option, Some, None, Result, Ok, Err}
+use Rattle.std.specs.Prelude.{ℕ, zero, suc, ◌+◌, ◌-◌, ◌*◌, ◌/◌, ◌%◌, ◌^◌, ◌==◌, ◌&&◌, nat_lt, nat_le, if◌then◌else◌, Bool, true, false, not, List, [], ◌∷◌, ◌++◌, length, take, drop, slice_get, slice_set, unwrap_or, Option, Some, None, Result, Ok, Err}
 use Rattle.std.specs.List.{list_any, list_all}
+use Rattle.p9_base.specs.Words.{word_sum}
 use Rattle.p9_lang.specs.Names.{same_name}
 use Rattle.p9_cmean.specs.declared.Cause.{Cause}
 use Rattle.p9_cmean.specs.declared.Cause.TheVariants as cause
@@ -77,18 +78,16 @@ usable objects pointers gives =
     else (if list_any (is_outside objects) pointers then Err cause.Range
     else gives)
 
--- within 0 to the size; a function counts as an object of size 0
-abbrev pub forwards : List Object → Pointer → (bytes : ℕ) → Result Pointer Cause
-forwards objects (Into object offset) bytes =
-    if nat_lt (length (object_at objects object).cells) (offset + bytes) then Err cause.Range
-    else Ok (Into object (offset + bytes))
-forwards objects (ToFunction function) zero = Ok (ToFunction function)
-forwards objects (ToFunction function) (suc bytes) = Err cause.Range
+-- A pointer that moves by so many bytes stays within 0 to its object's size; a function counts as an
+-- object of size 0.
+abbrev pub stays_within : List Object → Pointer → (is_back : Bool) → (bytes : ℕ) → Bool
+stays_within objects (Into object offset) false bytes = nat_le (offset + bytes) (length (object_at objects object).cells)
+stays_within objects (Into object offset) true bytes = nat_le bytes offset
+stays_within objects (ToFunction function) is_back bytes = bytes == 0
 
-abbrev pub backwards : Pointer → (bytes : ℕ) → Result Pointer Cause
-backwards (Into object offset) bytes = if nat_lt offset bytes then Err cause.Range else Ok (Into object (offset - bytes))
-backwards (ToFunction function) zero = Ok (ToFunction function)
-backwards (ToFunction function) (suc bytes) = Err cause.Range
+abbrev pub with_offset : (ℕ → ℕ) → Pointer → Pointer
+with_offset to (Into object offset) = Into object (to offset)
+with_offset to (ToFunction function) = ToFunction function
 
 -- VALUES
 
@@ -117,17 +116,19 @@ not_null (Some pointer) = Ok pointer
 abbrev pub target_in : Value → Result Pointer Cause
 target_in address = and_go (pointer_in address) not_null
 
--- a pointer moved by so many bytes; null can be moved by 0 alone
-abbrev pub moved : List Object → (is_back : Bool) → (bytes : ℕ) → Option Pointer → Result Value Cause
-moved objects is_back zero None = Ok null
-moved objects is_back (suc bytes) None = Err cause.Null
-moved objects is_back bytes (Some pointer) =
+-- A pointer is moved by so many bytes: its offset goes to another word. Null can be moved by 0 alone,
+-- and is then null.
+abbrev pub moved : List Object → (is_back : Bool) → (bytes : ℕ) → (to : ℕ → ℕ) → Option Pointer → Result Value Cause
+moved objects is_back zero to None = Ok (Word (to 0))
+moved objects is_back (suc bytes) to None = Err cause.Null
+moved objects is_back bytes to (Some pointer) =
     usable objects (pointer ∷ [])
-    (and_go (if is_back then backwards pointer bytes else forwards objects pointer bytes) (λ p. Ok (Address p)))
+    (if stays_within objects pointer is_back bytes then Ok (Address (with_offset to pointer)) else Err cause.Range)
 
 -- to a member or substructure at this offset
 abbrev pub moved_inside : List Object → (offset : ℕ) → Value → Result Value Cause
-moved_inside objects offset address = and_go (pointer_in address) (moved objects false offset)
+moved_inside objects offset address =
+    and_go (pointer_in address) (moved objects false offset (λ start. word_sum start offset))
 
 -- INTEGERS AND POINTERS IN CELLS
 

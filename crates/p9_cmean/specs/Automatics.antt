@@ -28,9 +28,12 @@ abbrev pub unset_object : Tags → Declared → Object
 unset_object tags declared = live_object (replicate (size_of tags declared.type) Unset)
 
 -- new objects have the next numbers, in the order of their declarations
-abbrev pub numbered : (next : ℕ) → List Declared → List Living
+abbrev pub numbered : (next : ℕ) → (automatics : List ℕ) → List Living
 numbered next [] = []
-numbered next (d ∷ ds) = record { automatic = d.number; object = next } ∷ numbered (suc next) ds
+numbered next (a ∷ others) = record { automatic = a; object = next } ∷ numbered (suc next) others
+
+abbrev pub next_object : State → ℕ
+next_object s = length s.objects
 
 abbrev pub with_objects : List Object → State → State
 with_objects objects s = record s { objects = s.objects ++ objects }

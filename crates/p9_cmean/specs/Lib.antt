@@ -11,3 +11,8 @@ pub mod Expressions
 pub mod Declarations
 pub mod Statements
 pub mod PlayLaws
+pub mod Union
+pub mod FirstContents
+pub mod CRun
+pub mod Joins
+pub mod RunLaws

@@ -1,7 +1,7 @@
 -- What operators give of their operands' values, by the operands' types, which are arrays and
 -- functions no more: these have become pointers.
-use Rattle.std.specs.Prelude.{ℕ, ◌-◌, ◌*◌, ◌/◌, ◌%◌, ◌==◌, ◌||◌, nat_lt, nat_le, if◌then◌else◌, Bool, true, false, not, List, [], ◌∷◌, length, option_to_list, ◌++◌, Option, Some, None, Result, Ok, Err}
-use Rattle.p9_base.specs.Words.{word_negation, is_negative, magnitude}
+use Rattle.std.specs.Prelude.{ℕ, ◌*◌, ◌==◌, ◌||◌, nat_lt, nat_le, if◌then◌else◌, Bool, true, false, not, List, [], ◌∷◌, length, option_to_list, ◌++◌, Option, Some, None, Result, Ok, Err}
+use Rattle.p9_base.specs.Words.{word_sum, word_difference, word_product, is_negative, magnitude, signed_quotient, signed_remainder}
 use Rattle.p9_lang.specs.declared.tree.CBinary.{CBinary}
 use Rattle.p9_lang.specs.declared.tree.CBinary.TheVariants as operator
 use Rattle.p9_lang.specs.Types.{TypeTree, Pointer, Tags}
@@ -31,14 +31,21 @@ of_integers op left right a b =
 
 -- POINTERS
 
--- moved by so many elements of a size, forwards or backwards; the number has a sign if its type has
+-- A pointer moves by so many elements of a size, forwards or backwards; the number has a sign if its
+-- type has.
+abbrev pub element_offset : (is_back : Bool) → (size count : ℕ) → ℕ → ℕ
+element_offset false size count offset = word_sum offset (word_product count size)
+element_offset true size count offset = word_difference offset (word_product count size)
+
+abbrev pub moved_by : List Object → (is_back : Bool) → (size : ℕ) → (type : TypeTree) → (count : ℕ) → Option cells.Pointer → Result Value Cause
+moved_by objects is_back size type count pointer =
+    if is_unsigned type || not (is_negative count)
+    then moved objects is_back (count * size) (element_offset is_back size count) pointer
+    else moved objects (not is_back) (magnitude count * size) (element_offset is_back size count) pointer
+
 abbrev pub moved_elements : List Object → (is_back : Bool) → (size : ℕ) → (type : TypeTree) → (pointer count : Value) → Result Value Cause
 moved_elements objects is_back size type pointer count =
-    and_go (pointer_in pointer) (λ p.
-    and_go (integer_in count) (λ n.
-    if is_unsigned type then moved objects is_back (n * size) p
-    else (if is_negative n then moved objects (not is_back) (magnitude n * size) p
-    else moved objects is_back (n * size) p)))
+    and_go (pointer_in pointer) (λ p. and_go (integer_in count) (λ n. moved_by objects is_back size type n p))
 
 abbrev pub pointers : Option cells.Pointer → Option cells.Pointer → List cells.Pointer
 pointers p q = option_to_list p ++ option_to_list q
@@ -62,11 +69,13 @@ within_one operation (Some (cells.ToFunction f)) (Some q) = Err cause.Compare
 abbrev pub compared : (ℕ → ℕ → Bool) → Option cells.Pointer → Option cells.Pointer → Result ℕ Cause
 compared test = within_one (λ a b. Ok (truth (test a b)))
 
--- a difference is a whole number of elements
+-- The difference of two offsets, a word with a sign, is a whole number of elements.
+abbrev pub whole_elements : (size difference : ℕ) → Result ℕ Cause
+whole_elements size difference =
+    if signed_remainder difference size == 0 then Ok (signed_quotient difference size) else Err cause.Compare
+
 abbrev pub elements_between : (size : ℕ) → (a b : ℕ) → Result ℕ Cause
-elements_between size a b =
-    if nat_le b a then (if (a - b) % size == 0 then Ok ((a - b) / size) else Err cause.Compare)
-    else (if (b - a) % size == 0 then Ok (word_negation ((b - a) / size)) else Err cause.Compare)
+elements_between size a b = whole_elements size (word_difference a b)
 
 abbrev pub is_past_the_end : List Object → (object offset : ℕ) → Bool
 is_past_the_end objects object offset = offset == length (object_at objects object).cells

@@ -51,7 +51,12 @@ pub record LoopFollows (turns : ℕ) (first second : Loop) : Type 0 where
 abbrev pub LoopsFollow : Type 0
 LoopsFollow =
     (m n : ℕ) → m ≤ n → (first second : Loop) → LoopFollows m first second → (s : State)
-    → Follows m (turn_of m first s) (turn_of n second s) × Follows m (tested_loop m first s) (tested_loop n second s)
+    → Follows m (turn_of m first s) (turn_of n second s)
+
+abbrev pub TestedLoopsFollow : Type 0
+TestedLoopsFollow =
+    (m n : ℕ) → m ≤ n → (first second : Loop) → LoopFollows m first second → (s : State)
+    → Follows m (tested_loop m first s) (tested_loop n second s)
 
 -- BEFORE A CUT
 
@@ -75,8 +80,11 @@ pub record LoopLasts (turns : ℕ) (loop : Loop) : Type 0 where
 -- A loop that is given m turns takes more than m before it is cut off.
 abbrev pub LoopsLast : Type 0
 LoopsLast =
-    (m : ℕ) (loop : Loop) → LoopLasts (suc m) loop → (s : State)
-    → Lasts (suc m) (turn_of m loop s) × Lasts (suc m) (tested_loop m loop s)
+    (m : ℕ) (loop : Loop) → LoopLasts m loop → (s : State) → Lasts (suc m) (turn_of m loop s)
+
+abbrev pub TestedLoopsLast : Type 0
+TestedLoopsLast =
+    (m : ℕ) (loop : Loop) → LoopLasts (suc m) loop → (s : State) → Lasts (suc m) (tested_loop m loop s)
 
 -- OUTPUT GROWS, AND INPUT FALLS
 

@@ -14,7 +14,7 @@ use Rattle.p9_cmean.specs.Cells.{Cell, Object, Value, Word, Address, Missing, St
 use Rattle.p9_cmean.specs.Plays.{Call, Play, Done, NoMeaning, bind, Flow, Normal, Broke, Continued, Returned, Went, then_go, after_switch, Loop, turn_of, tested_loop, no_step}
 use Rattle.p9_cmean.specs.Access.{integer_in, value_cells}
 use Rattle.p9_cmean.specs.Places.{used, or_wrong, or_no_meaning}
-use Rattle.p9_cmean.specs.Automatics.{Declared, Living, live_object, unset_object, numbered, with_objects, left}
+use Rattle.p9_cmean.specs.Automatics.{Declared, Living, live_object, unset_object, numbered, next_object, with_objects, left}
 use Rattle.p9_cmean.specs.Declarations.{Automatic, declared_by, declared_in, declaration_of, Definition}
 use Rattle.p9_cmean.specs.Expressions.{Surroundings, at, operand_type, pointer_to, convert_at, conversion_of, assign, test_at, value}
 
@@ -35,7 +35,7 @@ initialised around a s = by a.initialiser
     by (Some e) =
         or_no_meaning (at around a.name) s (pointer_to around a.name.type a.name.means) (λ p.
         bind (value around e s) (λ v t.
-            bind (assign around (at around a.name) e a.name.type (Address p) v t) (λ w u. Done tt u)))
+        bind (assign around (at around a.name) e a.name.type (Address p) v t) (λ w u. Done tt u)))
 
 abbrev pub all_initialised : Surroundings → List Automatic → State → Play (Unit {0})
 all_initialised around [] s = Done tt s
@@ -53,7 +53,7 @@ abbrev pub entered : Surroundings → List Declared → State → State
 entered around declared s = with_objects (map (unset_object around.tags) declared) s
 
 abbrev pub living_in : List Declared → State → List Living
-living_in declared s = numbered (length s.objects) declared
+living_in declared s = numbered (next_object s) (map (λ d. d.number) declared)
 
 abbrev pub inside : Surroundings → List Living → Surroundings
 inside around living = record around { automatics = living ++ around.automatics }

@@ -1,5 +1,6 @@
 // Laws of the definitions in `specs/`. Each function does nothing; its contract is the law.
-ghost use Rattle.p9_cmean.specs.PlayLaws.{BindIsAssociative, CallsTakeTurns, DepthIsEnough, LoopsFollow, LoopsLast};
+ghost use Rattle.p9_cmean.specs.PlayLaws.{BindIsAssociative, CallsTakeTurns, DepthIsEnough, LoopsFollow, LoopsLast, TestedLoopsFollow, TestedLoopsLast};
+ghost use Rattle.p9_cmean.specs.RunLaws.{AccessInverts, BodiesLast, InputFalls, OutputGrows, RunsGoOn};
 
 /// Plays one after the other may be grouped in either way.
 #[tactic(auto, using(crate::proofs::Plays::bind_is_associative))]
@@ -13,10 +14,22 @@ pub fn loops_follow()
     ensures { LoopsFollow }
 {}
 
+/// So does one that tests before its first turn.
+#[tactic(auto, using(crate::proofs::Plays::tested_loops_follow))]
+pub fn tested_loops_follow()
+    ensures { TestedLoopsFollow }
+{}
+
 /// A loop that is given turns takes more than these before it is cut off.
 #[tactic(auto, using(crate::proofs::Plays::loops_last))]
 pub fn loops_last()
     ensures { LoopsLast }
+{}
+
+/// So does one that tests before its first turn.
+#[tactic(auto, using(crate::proofs::Plays::tested_loops_last))]
+pub fn tested_loops_last()
+    ensures { TestedLoopsLast }
 {}
 
 /// A call that gives a value has taken at least one turn, so turns never rise.
@@ -29,4 +42,36 @@ pub fn calls_take_turns()
 #[tactic(auto, using(crate::proofs::Calls::depth_is_enough))]
 pub fn depth_is_enough()
     ensures { DepthIsEnough }
+{}
+
+/// With more turns the body of a function takes all of them before it is cut off.
+#[tactic(auto, using(crate::proofs::Fitting::bodies_last))]
+pub fn bodies_last()
+    ensures { BodiesLast }
+{}
+
+/// A run that has ended, or is undefined or too deep, is the same with more turns; one that is out
+/// of turns goes on.
+#[tactic(auto, using(crate::proofs::Runs::runs_go_on))]
+pub fn runs_go_on()
+    ensures { RunsGoOn }
+{}
+
+/// With more turns a run's output begins with what it was.
+#[tactic(auto, using(crate::proofs::Runs::output_grows))]
+pub fn output_grows()
+    ensures { OutputGrows }
+{}
+
+/// With more turns the input that is left is an end of what was left.
+#[tactic(auto, using(crate::proofs::Runs::input_falls))]
+pub fn input_falls()
+    ensures { InputFalls }
+{}
+
+/// An access that is defined is into a live object, at a multiple of its alignment and within the
+/// object's size.
+#[tactic(auto, using(crate::proofs::Accesses::access_inverts))]
+pub fn access_inverts()
+    ensures { AccessInverts }
 {}

@@ -3,7 +3,11 @@
 
 mod laws;
 
-pub use laws::{bind_is_associative, calls_take_turns, depth_is_enough, loops_follow, loops_last};
+pub use laws::{
+    access_inverts, bind_is_associative, bodies_last, calls_take_turns, depth_is_enough,
+    input_falls, loops_follow, loops_last, output_grows, runs_go_on, tested_loops_follow,
+    tested_loops_last,
+};
 
 /// An operation that C leaves undefined.
 #[derive(Clone, Copy, Debug, PartialEq, Eq, Drop)]

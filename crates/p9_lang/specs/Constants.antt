@@ -1,15 +1,15 @@
 -- Constant expressions: their values, by the operations on words that C's meaning uses too.
-use Rattle.std.specs.Prelude.{ℕ, zero, suc, ◌-◌, ◌*◌, ◌/◌, ◌%◌, ◌^◌, Bool, true, false, not, ◌&&◌, ◌||◌, ◌==◌, nat_lt, nat_le, if◌then◌else◌, bit_and, bit_or, bit_xor, List, [], ◌∷◌, Result, Ok, Err}
+use Rattle.std.specs.Prelude.{ℕ, zero, suc, ◌-◌, ◌/◌, ◌%◌, ◌^◌, Bool, true, false, not, ◌&&◌, ◌||◌, ◌==◌, nat_lt, if◌then◌else◌, bit_and, bit_or, bit_xor, List, [], ◌∷◌, Option, Some, None, nat_le, Result, Ok, Err}
 use Rattle.p9_base.specs.Numbers.{sign_extended}
-use Rattle.p9_base.specs.Words.{word_sum, word_difference, word_negation, word_product, word_complement, is_negative, is_signed_less, signed_quotient, signed_remainder, shift_left, shift_right, shift_right_signed, low8, low16}
+use Rattle.p9_base.specs.Words.{word_sum, word_difference, word_negation, word_product, word_complement, is_signed_less, signed_quotient, signed_remainder, shift_left, shift_right, shift_right_signed, low8, low16}
 use Rattle.p9_lang.specs.declared.tree.CBinary.{CBinary}
 use Rattle.p9_lang.specs.declared.tree.CBinary.TheVariants as operator
 use Rattle.p9_lang.specs.declared.tree.CUnary.{CUnary}
 use Rattle.p9_lang.specs.declared.tree.CUnary.TheVariants as unary
 use Rattle.p9_lang.specs.declared.tree.Kind.{Kind}
 use Rattle.p9_lang.specs.declared.tree.Kind.TheVariants as kind
-use Rattle.p9_lang.specs.Types.{TypeTree, Void, Char, UChar, Short, UShort, Int, UInt, Long, ULong, Pointer, Array, Function, Tagged, Meant, Nothing, Outer, Static, Auto, EnumValue, TypeName, Tags}
-use Rattle.p9_lang.specs.Layout.{is_within_limit, size_of}
+use Rattle.p9_lang.specs.Types.{TypeTree, Void, Char, UChar, Short, UShort, Pointer, Meant, EnumValue, Tags}
+use Rattle.p9_lang.specs.Layout.{Extent, layout, size_limit}
 use Rattle.p9_lang.specs.Conversions.{is_integer, is_unsigned}
 use Rattle.p9_lang.specs.Trees.{node, none, more}
 use Rattle.p9_lang.specs.Modules.{Typed, TypedRow}
@@ -161,8 +161,13 @@ abbrev pub cast_constant : TypeTree → Constant → Constant
 cast_constant (Pointer Void) c = on_word null_if c
 cast_constant type c = if is_integer type then on_word (λ x. Value (narrowed type x)) c else NotConstant
 
+-- the size of an incomplete type, or one above the limit, is none
+abbrev pub size_constant_in : Option Extent → Constant
+size_constant_in None = NotConstant
+size_constant_in (Some e) = if nat_le e.size size_limit then Value e.size else NotConstant
+
 abbrev pub size_constant : Tags → TypeTree → Constant
-size_constant tags type = if is_within_limit tags type then Value (size_of tags type) else NotConstant
+size_constant tags type = size_constant_in (layout tags type)
 
 abbrev pub enumeration_constant : Meant → Constant
 enumeration_constant (EnumValue value) = Value value

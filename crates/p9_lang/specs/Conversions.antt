@@ -1,8 +1,7 @@
 -- Kinds of types, what operands become, and when a value of one type may stand where one of another
 -- is asked.
-use Rattle.std.specs.Prelude.{ℕ, ◌^◌, Bool, true, false, not, ◌&&◌, ◌||◌, ◌==◌, nat_le, if◌then◌else◌, List, [], ◌∷◌, Option, Some, None}
+use Rattle.std.specs.Prelude.{ℕ, ◌^◌, Bool, true, false, not, ◌&&◌, ◌||◌, ◌==◌, nat_le, if◌then◌else◌}
 use Rattle.p9_lang.specs.Types.{TypeTree, Void, Char, UChar, Short, UShort, Int, UInt, Long, ULong, Pointer, Array, Function, Tagged, TypeRow, none, more, Tags}
-use Rattle.p9_lang.specs.Layout.{is_complete}
 use Rattle.p9_lang.specs.Members.{Sought, Nowhere, One, Several, find_substructure}
 
 abbrev pub is_integer : TypeTree → Bool

@@ -1,6 +1,6 @@
 -- Members: where each stands, how one is found by its name through unnamed substructures, and
 -- where the one substructure of a kind stands that a pointer may be converted to.
-use Rattle.std.specs.Prelude.{ℕ, zero, suc, ◌+◌, Bool, true, false, ◌==◌, if◌then◌else◌, List, [], ◌∷◌, ◌++◌, length, slice_get, map, filter, flat_map, Option, Some, None}
+use Rattle.std.specs.Prelude.{ℕ, zero, suc, ◌+◌, Bool, ◌==◌, if◌then◌else◌, List, [], ◌∷◌, length, slice_get, map, filter, flat_map, Option, Some, None}
 use Rattle.p9_lang.specs.Names.{same_name, is_nameless}
 use Rattle.p9_lang.specs.Types.{TypeTree, Void, Char, UChar, Short, UShort, Int, UInt, Long, ULong, Pointer, Array, Function, Tagged, MemberTree, TagTree, Tags}
 use Rattle.p9_lang.specs.Layout.{Extent, layout, nothing_yet, member_offset, with_member}

@@ -1,7 +1,6 @@
 -- Modules as plain data: trees whose nodes know their number, their first token, their type and
 -- what they stand for.
-use Rattle.std.specs.Prelude.{ℕ, ◌+◌, List, [], ◌∷◌, unwrap_or, slice_get, Option, Some, None}
-use Rattle.p9_lang.specs.declared.tree.Kind.{Kind}
+use Rattle.std.specs.Prelude.{ℕ, ◌+◌, List, [], ◌∷◌, unwrap_or, slice_get}
 use Rattle.p9_lang.specs.declared.module.Module.{Module}
 use Rattle.p9_lang.specs.Types.{TypeTree, Void, Meant, Nothing, Tags, types_of, all_meant, tags_of}
 use Rattle.p9_lang.specs.Trees.{Labelled, node, Row, none, more, Syntax, SyntaxRow, nodes_of, nodes_of_row, row_of}

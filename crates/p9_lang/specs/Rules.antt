@@ -1,6 +1,6 @@
 -- The rules that a file may break behind its grammar, and which of several is told: the one at the
 -- first node in the order of numbers, and there the one with the least number.
-use Rattle.std.specs.Prelude.{ℕ, Bool, true, false, ◌&&◌, ◌||◌, ◌==◌, nat_lt, if◌then◌else◌, List, [], ◌∷◌, ◌++◌, map, Result, Ok, Err}
+use Rattle.std.specs.Prelude.{ℕ, Bool, true, false, ◌&&◌, ◌||◌, ◌==◌, nat_lt, if◌then◌else◌, List, [], ◌∷◌, Result, Ok, Err}
 
 pub data Rule : Type 0 where
   -- the tree isn't one of the grammar

@@ -10,14 +10,12 @@ use Rattle.p9_abs.specs.declared.instructions.Abs.{Abs}
 use Rattle.p9_abs.specs.declared.instructions.TextDef.{TextDef}
 use Rattle.p9_abs.specs.declared.forms.OperandKind.{OperandKind}
 use Rattle.p9_abs.specs.declared.forms.OperandKind.TheVariants as kind
-use Rattle.p9_abs.specs.declared.forms.Location.TheVariants as location
-use Rattle.p9_abs.specs.declared.forms.Special.TheVariants as special
 use Rattle.p9_abs.specs.declared.modules.DataPiece.{DataPiece}
 use Rattle.p9_abs.specs.declared.modules.DataPiece.TheVariants.{Raw, Address}
 use Rattle.p9_abs.specs.declared.modules.Body.{Body}
 use Rattle.p9_abs.specs.declared.modules.Body.TheVariants.{Declared, Used, Text, Data, Common}
 use Rattle.p9_abs.specs.declared.modules.Symbol.{Symbol}
-use Rattle.p9_abs.specs.Forms.{operand_kind, kinds_form, form_of, op_number}
+use Rattle.p9_abs.specs.Forms.{operand_kind, form_of, op_number}
 use Rattle.p9_abs.specs.Modules.{pieces_size}
 use Rattle.p9_abs.specs.Validity.{writes_last}
 use Rattle.p9_object.specs.Fields.{Field, Byte, Half, Word, Chars, operand_fields, instruction_fields, piece_fields, symbol_fields, signature_fields, binding_number, magic, version, fields_of}
@@ -37,96 +35,167 @@ abbrev pub whole_if : {P X : Type 0} → Bool → X → Turn P X
 whole_if true x = Whole x
 whole_if false x = Bad
 
--- Which kinds of operands may come behind others: those with which some form goes on
+-- Which sorts of operands may come behind others: those with which some form of the operation goes on
 
-abbrev pub is_register : OperandKind → Bool
-is_register (kind.Register r) = true
-is_register (kind.Constant c) = false
-is_register (kind.Address a) = false
-is_register (kind.Memory a) = false
-is_register (kind.HiLo h) = false
-is_register (kind.Target l) = false
-is_register (kind.Function s) = false
+pub data Sort : Type 0 where
+  RegisterSort : Sort
+  ConstantSort : Sort
+  AddressSort : Sort
+  MemorySort : Sort
+  HiLoSort : Sort
+  TargetSort : Sort
+  FunctionSort : Sort
 
-abbrev pub is_constant : OperandKind → Bool
-is_constant (kind.Constant c) = true
-is_constant _ = false
+abbrev pub sort_of : OperandKind → Sort
+sort_of (kind.Register r) = RegisterSort
+sort_of (kind.Constant c) = ConstantSort
+sort_of (kind.Address a) = AddressSort
+sort_of (kind.Memory a) = MemorySort
+sort_of (kind.HiLo h) = HiLoSort
+sort_of (kind.Target l) = TargetSort
+sort_of (kind.Function s) = FunctionSort
 
-abbrev pub is_memory : OperandKind → Bool
-is_memory (kind.Memory a) = true
-is_memory _ = false
+abbrev pub sorts : List OperandKind → List Sort
+sorts kinds = map sort_of kinds
 
-abbrev pub is_half : OperandKind → Bool
-is_half (kind.HiLo h) = true
-is_half _ = false
+abbrev pub is_register : Sort → Bool
+is_register RegisterSort = true
+is_register ConstantSort = false
+is_register AddressSort = false
+is_register MemorySort = false
+is_register HiLoSort = false
+is_register TargetSort = false
+is_register FunctionSort = false
 
-abbrev pub is_target : OperandKind → Bool
-is_target (kind.Target l) = true
-is_target _ = false
+abbrev pub is_target : Sort → Bool
+is_target RegisterSort = false
+is_target ConstantSort = false
+is_target AddressSort = false
+is_target MemorySort = false
+is_target HiLoSort = false
+is_target TargetSort = true
+is_target FunctionSort = false
 
-abbrev pub is_function : OperandKind → Bool
-is_function (kind.Function s) = true
-is_function _ = false
+-- what may be moved, and where to
+abbrev pub is_moved : Sort → Bool
+is_moved RegisterSort = true
+is_moved ConstantSort = true
+is_moved AddressSort = true
+is_moved MemorySort = true
+is_moved HiLoSort = true
+is_moved TargetSort = false
+is_moved FunctionSort = false
 
-abbrev pub is_count : OperandKind → Bool
-is_count (kind.Constant c) = nat_lt c 32
-is_count _ = false
+abbrev pub moves_to : Sort → Sort → Bool
+moves_to RegisterSort RegisterSort = true
+moves_to RegisterSort ConstantSort = false
+moves_to RegisterSort AddressSort = false
+moves_to RegisterSort MemorySort = true
+moves_to RegisterSort HiLoSort = true
+moves_to RegisterSort TargetSort = false
+moves_to RegisterSort FunctionSort = false
+moves_to ConstantSort s = is_register s
+moves_to AddressSort s = is_register s
+moves_to MemorySort s = is_register s
+moves_to HiLoSort s = is_register s
+moves_to TargetSort s = false
+moves_to FunctionSort s = false
 
-abbrev pub next_of_move : List OperandKind → OperandKind → Bool
-next_of_move [] k = not (is_target k || is_function k)
-next_of_move (kind.Register a ∷ []) k = is_register k || (is_memory k || is_half k)
-next_of_move (first ∷ []) k = not (is_target first || is_function first) && is_register k
-next_of_move (first ∷ second ∷ more) k = false
+abbrev pub is_part_moved : Sort → Bool
+is_part_moved RegisterSort = true
+is_part_moved ConstantSort = false
+is_part_moved AddressSort = false
+is_part_moved MemorySort = true
+is_part_moved HiLoSort = false
+is_part_moved TargetSort = false
+is_part_moved FunctionSort = false
 
-abbrev pub next_of_signed : List OperandKind → OperandKind → Bool
-next_of_signed [] k = is_register k || is_memory k
-next_of_signed (kind.Register a ∷ []) k = is_register k || is_memory k
-next_of_signed (kind.Memory a ∷ []) k = is_register k
-next_of_signed _ k = false
+abbrev pub part_moves_to : Sort → Sort → Bool
+part_moves_to RegisterSort s = is_part_moved s
+part_moves_to MemorySort s = is_register s
+part_moves_to ConstantSort s = false
+part_moves_to AddressSort s = false
+part_moves_to HiLoSort s = false
+part_moves_to TargetSort s = false
+part_moves_to FunctionSort s = false
 
-abbrev pub next_of_unsigned : List OperandKind → OperandKind → Bool
-next_of_unsigned [] k = is_register k || is_memory k
-next_of_unsigned (kind.Register a ∷ []) k = is_register k
-next_of_unsigned (kind.Memory a ∷ []) k = is_register k
-next_of_unsigned _ k = false
+abbrev pub extends_to : Sort → Sort → Bool
+extends_to RegisterSort s = is_register s
+extends_to MemorySort s = is_register s
+extends_to ConstantSort s = false
+extends_to AddressSort s = false
+extends_to HiLoSort s = false
+extends_to TargetSort s = false
+extends_to FunctionSort s = false
 
-abbrev pub next_of_arithmetic : List OperandKind → OperandKind → Bool
-next_of_arithmetic [] k = is_register k || is_constant k
-next_of_arithmetic (first ∷ []) k = (is_register first || is_constant first) && is_register k
-next_of_arithmetic (first ∷ second ∷ []) k = (is_register first || is_constant first) && (is_register second && is_register k)
-next_of_arithmetic (first ∷ second ∷ third ∷ more) k = false
+-- a register or a constant
+abbrev pub is_counted : Sort → Bool
+is_counted RegisterSort = true
+is_counted ConstantSort = true
+is_counted AddressSort = false
+is_counted MemorySort = false
+is_counted HiLoSort = false
+is_counted TargetSort = false
+is_counted FunctionSort = false
 
-abbrev pub next_of_shift : List OperandKind → OperandKind → Bool
-next_of_shift [] k = is_register k || is_count k
-next_of_shift (first ∷ []) k = (is_register first || is_count first) && is_register k
-next_of_shift (first ∷ second ∷ []) k = (is_register first || is_count first) && (is_register second && is_register k)
-next_of_shift (first ∷ second ∷ third ∷ more) k = false
+abbrev pub is_called : Sort → Bool
+is_called RegisterSort = true
+is_called ConstantSort = false
+is_called AddressSort = false
+is_called MemorySort = false
+is_called HiLoSort = false
+is_called TargetSort = false
+is_called FunctionSort = true
 
-abbrev pub next_of_product : List OperandKind → OperandKind → Bool
-next_of_product [] k = is_register k
-next_of_product (first ∷ []) k = is_register first && is_register k
-next_of_product (first ∷ second ∷ more) k = false
+abbrev pub next_of_move : List Sort → Sort → Bool
+next_of_move [] s = is_moved s
+next_of_move (first ∷ []) s = moves_to first s
+next_of_move (first ∷ second ∷ more) s = false
 
-abbrev pub next_of_pair_branch : List OperandKind → OperandKind → Bool
-next_of_pair_branch [] k = is_register k
-next_of_pair_branch (first ∷ []) k = is_register first && is_register k
-next_of_pair_branch (first ∷ second ∷ []) k = is_register first && (is_register second && is_target k)
-next_of_pair_branch (first ∷ second ∷ third ∷ more) k = false
+abbrev pub next_of_signed : List Sort → Sort → Bool
+next_of_signed [] s = is_part_moved s
+next_of_signed (first ∷ []) s = part_moves_to first s
+next_of_signed (first ∷ second ∷ more) s = false
 
-abbrev pub next_of_sign_branch : List OperandKind → OperandKind → Bool
-next_of_sign_branch [] k = is_register k
-next_of_sign_branch (first ∷ []) k = is_register first && is_target k
-next_of_sign_branch (first ∷ second ∷ more) k = false
+abbrev pub next_of_unsigned : List Sort → Sort → Bool
+next_of_unsigned [] s = is_part_moved s
+next_of_unsigned (first ∷ []) s = extends_to first s
+next_of_unsigned (first ∷ second ∷ more) s = false
 
-abbrev pub next_of_jump : List OperandKind → OperandKind → Bool
-next_of_jump [] k = is_target k
-next_of_jump (first ∷ more) k = false
+abbrev pub next_of_arithmetic : List Sort → Sort → Bool
+next_of_arithmetic [] s = is_counted s
+next_of_arithmetic (first ∷ []) s = is_counted first && is_register s
+next_of_arithmetic (first ∷ second ∷ []) s = is_counted first && (is_register second && is_register s)
+next_of_arithmetic (first ∷ second ∷ third ∷ more) s = false
 
-abbrev pub next_of_call : List OperandKind → OperandKind → Bool
-next_of_call [] k = is_function k || is_register k
-next_of_call (first ∷ more) k = false
+abbrev pub next_of_product : List Sort → Sort → Bool
+next_of_product [] s = is_register s
+next_of_product (first ∷ []) s = is_register first && is_register s
+next_of_product (first ∷ second ∷ more) s = false
 
-abbrev pub may_follow : Op → List OperandKind → OperandKind → Bool
+abbrev pub next_of_pair_branch : List Sort → Sort → Bool
+next_of_pair_branch [] s = is_register s
+next_of_pair_branch (first ∷ []) s = is_register first && is_register s
+next_of_pair_branch (first ∷ second ∷ []) s = is_register first && (is_register second && is_target s)
+next_of_pair_branch (first ∷ second ∷ third ∷ more) s = false
+
+abbrev pub next_of_sign_branch : List Sort → Sort → Bool
+next_of_sign_branch [] s = is_register s
+next_of_sign_branch (first ∷ []) s = is_register first && is_target s
+next_of_sign_branch (first ∷ second ∷ more) s = false
+
+abbrev pub next_of_jump : List Sort → Sort → Bool
+next_of_jump [] s = is_target s
+next_of_jump (first ∷ more) s = false
+
+abbrev pub next_of_call : List Sort → Sort → Bool
+next_of_call [] s = is_called s
+next_of_call (first ∷ more) s = false
+
+abbrev pub next_of_none : List Sort → Sort → Bool
+next_of_none before s = false
+
+abbrev pub may_follow : Op → List Sort → Sort → Bool
 may_follow MovW = next_of_move
 may_follow MovH = next_of_signed
 may_follow MovHU = next_of_unsigned
@@ -142,9 +211,9 @@ may_follow Xor = next_of_arithmetic
 may_follow Nor = next_of_arithmetic
 may_follow Sgt = next_of_arithmetic
 may_follow SgtU = next_of_arithmetic
-may_follow Sll = next_of_shift
-may_follow Srl = next_of_shift
-may_follow Sra = next_of_shift
+may_follow Sll = next_of_arithmetic
+may_follow Srl = next_of_arithmetic
+may_follow Sra = next_of_arithmetic
 may_follow Mul = next_of_product
 may_follow MulU = next_of_product
 may_follow Div = next_of_product
@@ -157,8 +226,18 @@ may_follow Blez = next_of_sign_branch
 may_follow Bltz = next_of_sign_branch
 may_follow Jmp = next_of_jump
 may_follow Jal = next_of_call
-may_follow Ret = λ kinds k. false
-may_follow Syscall = λ kinds k. false
+may_follow Ret = next_of_none
+may_follow Syscall = next_of_none
+
+-- a shift by a constant is by 0 to 31
+abbrev pub shifts : Op → Bool
+shifts Sll = true
+shifts Srl = true
+shifts Sra = true
+shifts _ = false
+
+abbrev pub is_constant_of : Op → ℕ → Bool
+is_constant_of op c = not (shifts op) || nat_lt c 32
 
 -- Operands
 
@@ -197,14 +276,16 @@ read_operand (AtBaseOffset r) = Byte 9 ∷ Byte r ∷ []
 read_operand AtLabel = Byte 10 ∷ []
 read_operand AtFunction = Byte 11 ∷ []
 
--- what a function knows of the operand that is read: how many symbols the module has, the frame and
--- the count of instructions, whether the operand may be of a kind, and whether it is written
+-- what is known of the operand that is read: how many symbols the module has, the function's frame
+-- and count of instructions, which sorts the operand may be of, which constants, and whether it is
+-- what the instruction writes, if it is this register
 pub record Around : Type 0 where
   pub symbols : ℕ
   pub frame : ℕ
   pub total : ℕ
-  pub may : OperandKind → Bool
-  pub written : Bool
+  pub may : Sort → Bool
+  pub may_be_constant : ℕ → Bool
+  pub is_written : ℕ → Bool
 
 -- neither the system's registers nor the loader's
 abbrev pub is_own_register : ℕ → Bool
@@ -219,25 +300,25 @@ is_in_frame frame o = nat_le (2 ^ 32 - frame) o && nat_lt o (2 ^ 32)
 -- at the number of an operand's kind
 abbrev pub tag_step : Around → ℕ → Turn OperandPlace Operand
 tag_step a n =
-    if n == 1 then stay_if (a.may (kind.Register 0)) AtRegister
-    else if n == 2 then stay_if (a.may (kind.Constant 0)) AtConstant
-    else if n == 3 then stay_if (a.may (kind.Address (location.Static 0 0))) AtAddressSymbol
-    else if n == 4 then stay_if (a.may (kind.Address (location.Argument 0))) AtArgumentAddress
-    else if n == 5 then stay_if (a.may (kind.Address (location.Frame 0)) && nat_lt 0 a.frame) AtFrameAddress
-    else if n == 6 then stay_if (a.may (kind.Memory (location.Static 0 0))) AtSymbol
-    else if n == 7 then stay_if (a.may (kind.Memory (location.Argument 0))) AtArgument
-    else if n == 8 then stay_if (a.may (kind.Memory (location.Frame 0)) && nat_lt 0 a.frame) AtFrameOffset
-    else if n == 9 then stay_if (a.may (kind.Memory (location.Based 0 0))) AtBase
-    else if n == 10 then stay_if (a.may (kind.Target 0)) AtLabel
-    else if n == 11 then stay_if (a.may (kind.Function 0)) AtFunction
-    else if n == 12 then whole_if (a.may (kind.HiLo special.Hi)) Hi
-    else if n == 13 then whole_if (a.may (kind.HiLo special.Lo)) Lo
+    if n == 1 then stay_if (a.may RegisterSort) AtRegister
+    else if n == 2 then stay_if (a.may ConstantSort) AtConstant
+    else if n == 3 then stay_if (a.may AddressSort) AtAddressSymbol
+    else if n == 4 then stay_if (a.may AddressSort) AtArgumentAddress
+    else if n == 5 then stay_if (a.may AddressSort && nat_lt 0 a.frame) AtFrameAddress
+    else if n == 6 then stay_if (a.may MemorySort) AtSymbol
+    else if n == 7 then stay_if (a.may MemorySort) AtArgument
+    else if n == 8 then stay_if (a.may MemorySort && nat_lt 0 a.frame) AtFrameOffset
+    else if n == 9 then stay_if (a.may MemorySort) AtBase
+    else if n == 10 then stay_if (a.may TargetSort) AtLabel
+    else if n == 11 then stay_if (a.may FunctionSort) AtFunction
+    else if n == 12 then whole_if (a.may HiLoSort) Hi
+    else if n == 13 then whole_if (a.may HiLoSort) Lo
     else Bad
 
 abbrev pub operand_step : Around → OperandPlace → Field → Turn OperandPlace Operand
 operand_step a AtTag (Byte n) = tag_step a n
-operand_step a AtRegister (Byte r) = whole_if (is_own_register r && not (a.written && is_lasting_register r)) (Reg r)
-operand_step a AtConstant (Word c) = whole_if (a.may (kind.Constant c)) (Const c)
+operand_step a AtRegister (Byte r) = whole_if (is_own_register r && not (a.is_written r && is_lasting_register r)) (Reg r)
+operand_step a AtConstant (Word c) = whole_if (a.may_be_constant c) (Const c)
 operand_step a AtAddressSymbol (Word s) = stay_if (nat_lt s a.symbols) (AtAddressOffset s)
 operand_step a (AtAddressOffset s) (Word o) = Whole (AddrSB s o)
 operand_step a AtArgumentAddress (Word o) = whole_if (nat_le o 65535) (AddrFP o)
@@ -290,8 +371,9 @@ around symbols frame total op before = record {
   symbols = symbols;
   frame = frame;
   total = total;
-  may = may_follow op (map operand_kind before);
-  written = writes_last op && is_some (kinds_form op (map operand_kind before ++ kind.Register 0 ∷ []));
+  may = may_follow op (sorts (map operand_kind before));
+  may_be_constant = is_constant_of op;
+  is_written = λ r. writes_last op && is_some (form_of op (before ++ Reg r ∷ []));
 }
 
 abbrev pub behind_operand : Op → List Operand → Turn OperandPlace Operand → Turn InstructionPlace Abs

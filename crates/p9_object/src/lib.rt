@@ -2,3 +2,7 @@
 //! one field after the other, and the laws that say what its answers mean. The layout of objects is
 //! this project's own.
 #![tactic(auto)]
+
+mod laws;
+
+pub use laws::{faults_tell_the_first_break, objects_have_one_spelling};

@@ -4,8 +4,8 @@ use Rattle.p9_base.specs.declared.halt.Effect.{Effect}
 use Rattle.p9_r3k.specs.declared.inst.Inst.{Inst}
 use Rattle.p9_r3k.specs.declared.inst.Inst.TheVariants.{J, Jal, Beq, Bne, Blez, Bgtz, Bltz, Bgez, Bltzal, Bgezal, Addi, Addiu, Slti, Sltiu, Andi, Ori, Xori, Lui, Lb, Lh, Lw, Lbu, Lhu, Sb, Sh, Sw, Sll, Srl, Sra, Sllv, Srlv, Srav, Jr, Jalr, Syscall, Break, Mfhi, Mthi, Mflo, Mtlo, Mult, Multu, Div, Divu, Add, Addu, Sub, Subu, And, Or, Xor, Nor, Slt, Sltu}
 use Rattle.p9_base.specs.Core.{Core}
-use Rattle.p9_r3k.specs.Effects.{effect_of, reads_pair, writes_pair}
-use Rattle.p9_r3k.specs.Uses.{links, delays}
+use Rattle.p9_r3k.specs.Effects.{effect_of, reads_pair, writes_pair, branches}
+use Rattle.p9_r3k.specs.Uses.{loads, stores, links, delays}
 use Rattle.p9_r3k.specs.UseLaws.{MayDo}
 
 pub may_choose : (i : Inst) (b : Bool) (x y : Effect) → MayDo i x → MayDo i y → MayDo i (if b then x else y)
@@ -238,3 +238,174 @@ calls_delay (Xor rs rt rd) h = absurd (let z : false ≡ true = h in cc)
 calls_delay (Nor rs rt rd) h = absurd (let z : false ≡ true = h in cc)
 calls_delay (Slt rs rt rd) h = absurd (let z : false ≡ true = h in cc)
 calls_delay (Sltu rs rt rd) h = absurd (let z : false ≡ true = h in cc)
+
+-- a call is a branch or jump
+pub calls_branch : (i : Inst) → links i ≡ true → branches i ≡ true
+calls_branch (J index) h = refl
+calls_branch (Jal index) h = refl
+calls_branch (Beq rs rt imm) h = refl
+calls_branch (Bne rs rt imm) h = refl
+calls_branch (Blez rs imm) h = refl
+calls_branch (Bgtz rs imm) h = refl
+calls_branch (Bltz rs imm) h = refl
+calls_branch (Bgez rs imm) h = refl
+calls_branch (Bltzal rs imm) h = refl
+calls_branch (Bgezal rs imm) h = refl
+calls_branch (Addi rs rt imm) h = h
+calls_branch (Addiu rs rt imm) h = h
+calls_branch (Slti rs rt imm) h = h
+calls_branch (Sltiu rs rt imm) h = h
+calls_branch (Andi rs rt imm) h = h
+calls_branch (Ori rs rt imm) h = h
+calls_branch (Xori rs rt imm) h = h
+calls_branch (Lui rt imm) h = h
+calls_branch (Lb rs rt imm) h = h
+calls_branch (Lh rs rt imm) h = h
+calls_branch (Lw rs rt imm) h = h
+calls_branch (Lbu rs rt imm) h = h
+calls_branch (Lhu rs rt imm) h = h
+calls_branch (Sb rs rt imm) h = h
+calls_branch (Sh rs rt imm) h = h
+calls_branch (Sw rs rt imm) h = h
+calls_branch (Sll rt rd sh) h = h
+calls_branch (Srl rt rd sh) h = h
+calls_branch (Sra rt rd sh) h = h
+calls_branch (Sllv rs rt rd) h = h
+calls_branch (Srlv rs rt rd) h = h
+calls_branch (Srav rs rt rd) h = h
+calls_branch (Jr rs) h = refl
+calls_branch (Jalr rs rd) h = refl
+calls_branch (Syscall code) h = h
+calls_branch (Break code) h = h
+calls_branch (Mfhi rd) h = h
+calls_branch (Mthi rs) h = h
+calls_branch (Mflo rd) h = h
+calls_branch (Mtlo rs) h = h
+calls_branch (Mult rs rt) h = h
+calls_branch (Multu rs rt) h = h
+calls_branch (Div rs rt) h = h
+calls_branch (Divu rs rt) h = h
+calls_branch (Add rs rt rd) h = h
+calls_branch (Addu rs rt rd) h = h
+calls_branch (Sub rs rt rd) h = h
+calls_branch (Subu rs rt rd) h = h
+calls_branch (And rs rt rd) h = h
+calls_branch (Or rs rt rd) h = h
+calls_branch (Xor rs rt rd) h = h
+calls_branch (Nor rs rt rd) h = h
+calls_branch (Slt rs rt rd) h = h
+calls_branch (Sltu rs rt rd) h = h
+
+-- a load is no branch or jump
+pub loads_are_no_branches : (i : Inst) → (loads i && branches i) ≡ false
+loads_are_no_branches (J index) = refl
+loads_are_no_branches (Jal index) = refl
+loads_are_no_branches (Beq rs rt imm) = refl
+loads_are_no_branches (Bne rs rt imm) = refl
+loads_are_no_branches (Blez rs imm) = refl
+loads_are_no_branches (Bgtz rs imm) = refl
+loads_are_no_branches (Bltz rs imm) = refl
+loads_are_no_branches (Bgez rs imm) = refl
+loads_are_no_branches (Bltzal rs imm) = refl
+loads_are_no_branches (Bgezal rs imm) = refl
+loads_are_no_branches (Addi rs rt imm) = refl
+loads_are_no_branches (Addiu rs rt imm) = refl
+loads_are_no_branches (Slti rs rt imm) = refl
+loads_are_no_branches (Sltiu rs rt imm) = refl
+loads_are_no_branches (Andi rs rt imm) = refl
+loads_are_no_branches (Ori rs rt imm) = refl
+loads_are_no_branches (Xori rs rt imm) = refl
+loads_are_no_branches (Lui rt imm) = refl
+loads_are_no_branches (Lb rs rt imm) = refl
+loads_are_no_branches (Lh rs rt imm) = refl
+loads_are_no_branches (Lw rs rt imm) = refl
+loads_are_no_branches (Lbu rs rt imm) = refl
+loads_are_no_branches (Lhu rs rt imm) = refl
+loads_are_no_branches (Sb rs rt imm) = refl
+loads_are_no_branches (Sh rs rt imm) = refl
+loads_are_no_branches (Sw rs rt imm) = refl
+loads_are_no_branches (Sll rt rd sh) = refl
+loads_are_no_branches (Srl rt rd sh) = refl
+loads_are_no_branches (Sra rt rd sh) = refl
+loads_are_no_branches (Sllv rs rt rd) = refl
+loads_are_no_branches (Srlv rs rt rd) = refl
+loads_are_no_branches (Srav rs rt rd) = refl
+loads_are_no_branches (Jr rs) = refl
+loads_are_no_branches (Jalr rs rd) = refl
+loads_are_no_branches (Syscall code) = refl
+loads_are_no_branches (Break code) = refl
+loads_are_no_branches (Mfhi rd) = refl
+loads_are_no_branches (Mthi rs) = refl
+loads_are_no_branches (Mflo rd) = refl
+loads_are_no_branches (Mtlo rs) = refl
+loads_are_no_branches (Mult rs rt) = refl
+loads_are_no_branches (Multu rs rt) = refl
+loads_are_no_branches (Div rs rt) = refl
+loads_are_no_branches (Divu rs rt) = refl
+loads_are_no_branches (Add rs rt rd) = refl
+loads_are_no_branches (Addu rs rt rd) = refl
+loads_are_no_branches (Sub rs rt rd) = refl
+loads_are_no_branches (Subu rs rt rd) = refl
+loads_are_no_branches (And rs rt rd) = refl
+loads_are_no_branches (Or rs rt rd) = refl
+loads_are_no_branches (Xor rs rt rd) = refl
+loads_are_no_branches (Nor rs rt rd) = refl
+loads_are_no_branches (Slt rs rt rd) = refl
+loads_are_no_branches (Sltu rs rt rd) = refl
+
+-- a store has no delay
+pub stores_are_quick : (i : Inst) → (stores i && delays i) ≡ false
+stores_are_quick (J index) = refl
+stores_are_quick (Jal index) = refl
+stores_are_quick (Beq rs rt imm) = refl
+stores_are_quick (Bne rs rt imm) = refl
+stores_are_quick (Blez rs imm) = refl
+stores_are_quick (Bgtz rs imm) = refl
+stores_are_quick (Bltz rs imm) = refl
+stores_are_quick (Bgez rs imm) = refl
+stores_are_quick (Bltzal rs imm) = refl
+stores_are_quick (Bgezal rs imm) = refl
+stores_are_quick (Addi rs rt imm) = refl
+stores_are_quick (Addiu rs rt imm) = refl
+stores_are_quick (Slti rs rt imm) = refl
+stores_are_quick (Sltiu rs rt imm) = refl
+stores_are_quick (Andi rs rt imm) = refl
+stores_are_quick (Ori rs rt imm) = refl
+stores_are_quick (Xori rs rt imm) = refl
+stores_are_quick (Lui rt imm) = refl
+stores_are_quick (Lb rs rt imm) = refl
+stores_are_quick (Lh rs rt imm) = refl
+stores_are_quick (Lw rs rt imm) = refl
+stores_are_quick (Lbu rs rt imm) = refl
+stores_are_quick (Lhu rs rt imm) = refl
+stores_are_quick (Sb rs rt imm) = refl
+stores_are_quick (Sh rs rt imm) = refl
+stores_are_quick (Sw rs rt imm) = refl
+stores_are_quick (Sll rt rd sh) = refl
+stores_are_quick (Srl rt rd sh) = refl
+stores_are_quick (Sra rt rd sh) = refl
+stores_are_quick (Sllv rs rt rd) = refl
+stores_are_quick (Srlv rs rt rd) = refl
+stores_are_quick (Srav rs rt rd) = refl
+stores_are_quick (Jr rs) = refl
+stores_are_quick (Jalr rs rd) = refl
+stores_are_quick (Syscall code) = refl
+stores_are_quick (Break code) = refl
+stores_are_quick (Mfhi rd) = refl
+stores_are_quick (Mthi rs) = refl
+stores_are_quick (Mflo rd) = refl
+stores_are_quick (Mtlo rs) = refl
+stores_are_quick (Mult rs rt) = refl
+stores_are_quick (Multu rs rt) = refl
+stores_are_quick (Div rs rt) = refl
+stores_are_quick (Divu rs rt) = refl
+stores_are_quick (Add rs rt rd) = refl
+stores_are_quick (Addu rs rt rd) = refl
+stores_are_quick (Sub rs rt rd) = refl
+stores_are_quick (Subu rs rt rd) = refl
+stores_are_quick (And rs rt rd) = refl
+stores_are_quick (Or rs rt rd) = refl
+stores_are_quick (Xor rs rt rd) = refl
+stores_are_quick (Nor rs rt rd) = refl
+stores_are_quick (Slt rs rt rd) = refl
+stores_are_quick (Sltu rs rt rd) = refl

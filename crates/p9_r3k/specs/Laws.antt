@@ -1,13 +1,13 @@
 -- Laws of the machines' runs.
 use Rattle.std.specs.Prelude.{ℕ, ◌+◌, ◌-◌, ◌^◌, ◌≡◌, ◌≤◌, ◌++◌, List, length, take}
 pub use Rattle.p9_base.specs.Holding.{AreWords, AreBytes, HoldsWords, LaidOut, KeepsText}
-use Rattle.p9_base.specs.Numbers.{word_at}
+use Rattle.p9_base.specs.declared.order.ByteOrder.{ByteOrder}
 use Rattle.p9_base.specs.declared.halt.Ending.{Ending}
 use Rattle.p9_base.specs.declared.halt.Ending.TheVariants.{Running, Exited, Halted}
 use Rattle.p9_r3k.specs.declared.lines.Line.{Line}
-use Rattle.p9_r3k.specs.Memory.{Core, text_start, stack_start, stack_end, low_end, read_word}
+use Rattle.p9_r3k.specs.Memory.{Core, text_start, stack_start, stack_end, reg, low_end, read_word, word_in}
 use Rattle.p9_r3k.specs.Machine.{State, run}
-use Rattle.p9_r3k.specs.Start.{start}
+use Rattle.p9_r3k.specs.Start.{start, in_order}
 use Rattle.p9_r3k.specs.Pending.{Pending, settled, pending_run}
 use Rattle.p9_r3k.specs.Straight.{Addresses, Straight, straight_run}
 
@@ -53,12 +53,12 @@ StartsLaidOut =
     (text init : List ℕ) (bss entry : ℕ) (input : List ℕ) →
     ImageFits text init bss → LaidOut (start text init bss entry input).core
 
--- at every step the words of the text are the image's
+-- at every step the words of the text are the image's, by the machine's byte order
 abbrev pub RunsItsText : Type 0
 RunsItsText =
-    (text init : List ℕ) (bss entry : ℕ) (input : List ℕ) (n a : ℕ) →
+    (order : ByteOrder) (text init : List ℕ) (bss entry : ℕ) (input : List ℕ) (n a : ℕ) →
     ImageFits text init bss → text_start ≤ a → a + 4 ≤ text_start + length text →
-    read_word (run n (start text init bss entry input)).core a ≡ word_at text (a - text_start)
+    read_word (run n (in_order order (start text init bss entry input))).core a ≡ word_in order text (a - text_start)
 
 abbrev pub StartsWithWords : Type 0
 StartsWithWords =

@@ -1,0 +1,22 @@
+-- Laws of typing.
+use Rattle.std.specs.Prelude.{◌≡◌, ◌≤◌, ℕ, List, length, Option, Some, Result, Ok}
+use Rattle.p9_lang.specs.Trees.{Syntax, SyntaxRow, nodes_of_row}
+use Rattle.p9_lang.specs.Types.{TypeTree}
+use Rattle.p9_lang.specs.Layout.{Extent, layout}
+use Rattle.p9_lang.specs.Scopes.{Known}
+use Rattle.p9_lang.specs.Parts.{Context, Part}
+use Rattle.p9_lang.specs.Typing.{judge}
+use Rattle.p9_lang.specs.Files.{Typing, typed_file}
+
+-- a file that is typed has one type and one meaning for each of its nodes
+abbrev pub EachNodeIsTyped : Type 0
+EachNodeIsTyped =
+    (items : SyntaxRow) (marks : List (List ℕ)) (t : Typing) → typed_file items marks ≡ Ok t
+    → (length t.types ≡ nodes_of_row items) × (length t.means ≡ nodes_of_row items)
+
+-- a type that is complete where a node is typed has the same size and alignment behind the node, so
+-- what `sizeof` gives while a file is typed is its value in the module
+abbrev pub SizesStay : Type 0
+SizesStay =
+    (t : Syntax) (c : Context) (s : Known) (r : Part × Known) (type : TypeTree) (e : Extent)
+    → judge t c s ≡ Ok r → layout s.tags type ≡ Some e → layout r.1.tags type ≡ Some e
