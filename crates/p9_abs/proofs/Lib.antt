@@ -7,3 +7,5 @@ pub mod Walking
 pub mod StepLaws
 pub mod Fixed
 pub mod Choosing
+pub mod Growing
+pub mod Candidates

@@ -130,7 +130,7 @@ keeps_whole v size (forms.Load w from to) = is_whole v size w from
 keeps_whole v size (forms.Store w from to) = is_whole v size w to
 keeps_whole v size _ = true
 
--- an instruction that is no form does neither
+-- an instruction that is no form does neither of both
 abbrev pub keeps_whole_at : List Abs → ℕ → ℕ → ℕ → Bool
 keeps_whole_at code v size i = not (holds_of (λ form. not (keeps_whole v size form)) (form_at code i))
 
@@ -163,12 +163,12 @@ abbrev pub fills : ℕ → ℕ → Form → Bool
 fills v size (forms.Store w from to) = is_automatic v to && is_whole v size w to
 fills v size _ = false
 
+abbrev pub fills_of_size : List Abs → ℕ → Option ℕ → ℕ → Bool
+fills_of_size code v None i = false
+fills_of_size code v (Some size) i = holds_of (fills v size) (form_at code i)
+
 abbrev pub fills_at : AFunction → ℕ → ℕ → Bool
-fills_at f v i = of_size (slice_get f.autos v)
-  where
-    of_size : Option ℕ → Bool
-    of_size None = false
-    of_size (Some size) = holds_of (fills v size) (form_at f.code i)
+fills_at f v i = fills_of_size f.code v (slice_get f.autos v) i
 
 -- Live
 

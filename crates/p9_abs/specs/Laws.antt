@@ -1,5 +1,5 @@
 -- Laws of steps, of code over automatics and of programs.
-use Rattle.std.specs.Prelude.{◌≡◌, ◌≢◌, ◌≤◌, ◌<◌, ◌↔◌, ℕ, Bool, true, false, Option, Some, None, List, length, slice_get, All}
+use Rattle.std.specs.Prelude.{◌≡◌, ◌≢◌, ◌≤◌, ◌<◌, ◌↔◌, ℕ, ◌+◌, ◌++◌, Bool, true, false, Option, Some, None, List, length, slice_get, All}
 use Rattle.p9_base.specs.Words.{IsWord}
 use Rattle.p9_base.specs.Core.{Core, stack_start, reg, read_byte}
 use Rattle.p9_base.specs.SystemCalls.{State}
@@ -14,6 +14,7 @@ use Rattle.p9_abs.specs.Names.{IsChosen, IsUndefined}
 use Rattle.p9_abs.specs.Automatics.{form_at, reached, Along}
 use Rattle.p9_abs.specs.Steps.{Mach, Around, Step, Next, Turns, Calls, Returns, Exits, Undefined, step, without_text}
 use Rattle.p9_abs.specs.Keeping.{Side, Follows, nowhere}
+use Rattle.p9_abs.specs.Runs.{Routine, Addresses, Status, Going, Gone, Broken, arun_from}
 use Rattle.p9_abs.specs.Programs.{chosen}
 
 -- Steps
@@ -56,6 +57,13 @@ abbrev pub SilentSteps : Type 0
 SilentSteps =
     (around : Around) (code : List Abs) (x : Mach) → form_at code x.at ≢ Some forms.SystemCall → IsSilent x.state (step around code x)
 
+-- output only grows
+abbrev pub Grows : List ℕ → List ℕ → Type 0
+Grows xs ys = (more : List ℕ) × (ys ≡ xs ++ more)
+
+abbrev pub OutputGrows : Type 0
+OutputGrows = (around : Around) (code : List Abs) (x : Mach) → IfMach (λ y. Grows x.state.out y.state.out) (step around code x)
+
 -- an instruction that writes none of R29, R30 and R31 by its form leaves them
 abbrev pub StackStays : Type 0
 StackStays =
@@ -81,6 +89,20 @@ abbrev pub KeepsCompose : Type 0
 KeepsCompose =
     (apart : ℕ → Bool) (a b c : Side) (x y z : Mach) →
     ((n : ℕ) → Follows nowhere a b n x y) → ((n : ℕ) → Follows apart b c n y z) → (n : ℕ) → Follows apart a c n x z
+
+-- Runs
+
+-- m + n steps are n steps after m steps
+abbrev pub RunsCompose : Type 0
+RunsCompose = (p : Addresses) (rs : List Routine) (m n : ℕ) (s : Status) → arun_from p rs (m + n) s ≡ arun_from p rs n (arun_from p rs m s)
+
+abbrev pub HasEnded : Status → Type 0
+HasEnded (Going r) = ⊥
+HasEnded (Gone s) = Unit {0}
+HasEnded Broken = Unit {0}
+
+abbrev pub EndedRunsStay : Type 0
+EndedRunsStay = (p : Addresses) (rs : List Routine) (n : ℕ) (s : Status) → HasEnded s → arun_from p rs n s ≡ s
 
 -- Programs
 

@@ -1,14 +1,16 @@
 // What holds of abstract code, as contracts of functions that do nothing.
 
-ghost use Rattle.p9_abs.specs.Laws.{MemoryStays, WordsStay, SilentSteps, StackStays, BannedStay, ReachedByWays, KeepsCompose, ChosenIsChosen, NoneIsUndefined};
+ghost use Rattle.p9_abs.specs.Laws.{MemoryStays, WordsStay, SilentSteps, StackStays, BannedStay, OutputGrows, ReachedByWays, KeepsCompose, RunsCompose, EndedRunsStay, ChosenIsChosen, NoneIsUndefined};
 ghost use Rattle.p9_abs.specs.Examples.{KeptWordIsBanned, KeptWordIsFreedByReturn, OutsideIsUndefined, MisalignedIsUndefined, OverflowIsUndefined, DivisionIsUndefined, CallOfNoFunction, FloorIsUndefined, SystemStopIsUndefined, GapIsUndefined, LiveWhereRead, RegionOfStoreAndRead, CostByDepth};
 
 /// What each step leaves: memory's sizes and the bytes below the data; words and bytes; output and
-/// input, but for a system call; R29 to R31; the bytes of the stack that may not be touched.
+/// input, but for a system call, and what was written; R29 to R31; the bytes of the stack that may
+/// not be touched.
 pub fn step_laws()
     ensures memory { MemoryStays }
     ensures words { WordsStay }
     ensures silent { SilentSteps }
+    ensures output { OutputGrows }
     ensures stack { StackStays }
     ensures banned { BannedStay }
 {}
@@ -19,8 +21,10 @@ pub fn code_laws()
     ensures composed { KeepsCompose }
 {}
 
-/// Several modules: the definition that a name's uses stand for.
+/// Runs of several modules, and the definition that a name's uses stand for.
 pub fn program_laws()
+    ensures composed { RunsCompose }
+    ensures ended { EndedRunsStay }
     ensures chosen { ChosenIsChosen }
     ensures undefined { NoneIsUndefined }
 {}

@@ -42,17 +42,17 @@ fn fields_and_signs(rt: HostRuntime) {
 
 #[test]
 fn words_by_their_byte_order(rt: HostRuntime) {
-    for (order, half, word) in [
-        (ByteOrder::Big, 0x0102, 0x0102_0304),
-        (ByteOrder::Little, 0x0201, 0x0403_0201),
+    for (order, half, word, written) in [
+        (ByteOrder::Big, 0x0203, 0x0102_0304, [1, 2, 3, 4]),
+        (ByteOrder::Little, 0x0302, 0x0403_0201, [4, 3, 2, 1]),
     ] {
-        let mut bytes = [0; 4];
-        order.set_word(&mut bytes, 0, word);
-        assert_eq!(rt; bytes, [1, 2, 3, 4]);
+        let mut bytes = [1, 2, 3, 4];
+        assert_eq!(rt; order.half(&bytes, 1), half);
+        assert_eq!(rt; order.word(&bytes, 0), word);
+        order.set_word(&mut bytes, 0, 0x0102_0304);
+        assert_eq!(rt; bytes, written);
         order.set_half(&mut bytes, 2, half);
-        assert_eq!(rt; bytes, [1, 2, 1, 2]);
-        assert_eq!(rt; order.half(&bytes, 0), half);
-        assert_eq!(rt; order.word(&[1, 2, 3, 4], 0), word);
+        assert_eq!(rt; &bytes[2..], [2, 3].as_slice());
     }
 }
 
@@ -142,21 +142,19 @@ fn memory_sink_takes_what_fits(rt: HostRuntime) -> Result<(), Fail> {
 }
 
 #[test]
-fn rooms_are_filled_whole(rt: HostRuntime) -> Result<(), Fail> {
+fn whole_rooms_and_pieces(rt: HostRuntime) -> Result<(), Fail> {
     let alloc = rt.alloc();
     let mut source = MemSource::new(bytes(alloc, b"abcdef")?, calls(alloc, &[])?);
     let mut room = [b'.'; 4];
     assert_eq!(rt; fill(&mut source, &mut room), Some(4));
+    assert_eq!(rt; room, *b"abcd");
     assert_eq!(rt; fill_at(&mut source, &mut room, 1, 3), Some(2));
     assert_eq!(rt; room, *b"aefd");
-    Ok(())
-}
-
-#[test]
-fn pieces_are_put_whole(rt: HostRuntime) -> Result<(), Fail> {
-    let alloc = rt.alloc();
-    let mut sink = MemSink::new(alloc, 3, calls(alloc, &[])?)?;
-    assert!(rt; put_all(&mut sink, b"abc"));
+    let mut sink = MemSink::new(alloc, 3, calls(alloc, &[])?)
+        .ok()
+        .ok_or("no memory")?;
+    assert!(rt; put_all(&mut sink, b"ab"));
+    assert!(rt; !put_all(&mut sink, b"cd"));
     assert_eq!(rt; sink.bytes(), b"abc".as_slice());
     Ok(())
 }

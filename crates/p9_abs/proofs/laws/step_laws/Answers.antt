@@ -1,4 +1,5 @@
 use Rattle.p9_abs.proofs.StepLaws.{memory_stays, words_stay, silent_steps}
+use Rattle.p9_abs.proofs.Growing.{output_grows}
 use Rattle.p9_abs.proofs.Fixed.{stack_stays, banned_stay}
 use Rattle.p9_abs.proofs.laws.step_laws.Goals as goal
 
@@ -16,3 +17,6 @@ returns-clause-stack c = stack_stays
 
 pub returns-clause-banned : goal.returns-clause-banned
 returns-clause-banned c = banned_stay
+
+pub returns-clause-output : goal.returns-clause-output
+returns-clause-output c = output_grows
