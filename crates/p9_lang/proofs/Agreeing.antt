@@ -1,13 +1,13 @@
 -- The depth to which `agrees` looks is enough. Structures are compared with structures opened within
 -- structures to a depth; the pairs that stand this test grow fewer with the depth, and once they
 -- don't they stay, so as many steps as there are pairs settle it.
-use Rattle.std.proofs.Common.{◌<◌, ◌≡◌, ◌≤◌, ◌⊎◌, inl, inr, ℕ, zero, suc, ◌+◌, ◌*◌, max, Bool, true, false, not, ◌&&◌, ◌==◌, if◌then◌else◌, IsTrue, List, [], ◌∷◌, ◌++◌, length, length-append, slice_get, nat_lt, Option, Some, None, refl, sym, subst, ap, ◌∙◌, arith}
+use Rattle.std.proofs.Common.{◌<◌, ◌≡◌, ◌≤◌, ◌⊎◌, inl, inr, ℕ, zero, suc, ◌+◌, ◌*◌, Bool, true, false, ◌&&◌, ◌==◌, if◌then◌else◌, List, [], ◌∷◌, ◌++◌, length, length-append, slice_get, nat_lt, Option, Some, None, refl, sym, subst, ap, ◌∙◌, arith}
 use Rattle.std.proofs.lemmas.Bool.{and_parts}
 use Rattle.p9_lang.specs.Names.{same_name}
-use Rattle.p9_lang.specs.Types.{TypeTree, Void, Char, UChar, Short, UShort, Int, UInt, Long, ULong, Pointer, Array, Function, Tagged, TypeRow, none, more, MemberTree, TagTree, Tags}
-use Rattle.p9_lang.specs.Agreement.{open_body, kind_number, same_keyword, rows_agree, members_agree, bodies_agree, tags_agree, agree, Agree, height, row_height, members_height, body_height, tags_height, enough, agrees}
+use Rattle.p9_lang.specs.Types.{TypeTree, Pointer, Array, Function, Tagged, TypeRow, none, more, MemberTree, TagTree, Tags}
+use Rattle.p9_lang.specs.Agreement.{open_body, kind_number, same_keyword, rows_agree, members_agree, bodies_agree, tags_agree, agree, height, row_height, members_height, body_height, tags_height, enough}
 use Rattle.p9_lang.specs.Laws.{AgreementIsDecided}
-use Rattle.p9_lang.proofs.Settling.{Among, Falls, StaysAt, settled}
+use Rattle.p9_lang.proofs.Settling.{Among, StaysAt, settled}
 
 -- PARTS THAT AGREE BY ONE TEST agree by another, if what they are made of does
 

@@ -1,7 +1,7 @@
 -- Structures that have bodies have sizes, found as deep as there are bodies, where each body comes
 -- when its members have sizes.
-use Rattle.std.proofs.Common.{◌≡◌, ◌≤◌, ◌<◌, ◌⊎◌, inl, inr, ℕ, zero, suc, ◌+◌, ◌*◌, nat_lt, Bool, true, false, List, [], ◌∷◌, ◌++◌, length, slice_get, slice_set, Option, Some, None, refl, sym, ap, subst, ◌∙◌, arith}
-use Rattle.p9_lang.specs.Types.{TypeTree, Void, Char, UChar, Short, UShort, Int, UInt, Long, ULong, Pointer, Array, Function, Tagged, MemberTree, TagTree, Tags}
+use Rattle.std.proofs.Common.{◌≡◌, ◌≤◌, ◌⊎◌, inl, inr, ℕ, zero, suc, ◌+◌, ◌*◌, Bool, List, [], ◌∷◌, ◌++◌, length, slice_get, slice_set, Option, Some, None, refl, sym, ap, subst, ◌∙◌, arith}
+use Rattle.p9_lang.specs.Types.{TypeTree, Void, Array, Function, Tagged, MemberTree, TagTree, Tags}
 use Rattle.p9_lang.specs.Layout.{Extent, on_some, extent, repeated, with_member, filled, closed, nothing_yet, members_extent, body_extent, tag_extent, layout}
 use Rattle.p9_lang.specs.Scopes.{with_body, or_else}
 use Rattle.p9_lang.specs.TagRules.{Within, AreWithin, BodyWithin, TagWithin, Ends, NoneContainsItself}
@@ -65,22 +65,22 @@ repeated_some zero x e y k = cc
 repeated_some (suc n) x e y k = (record { size = y.size * suc n; align = y.align }, refl)
 
 has_body : (n : ℕ) (tags : Tags) (i : ℕ) (e : Extent) → tag_extent n tags i ≡ Some e
-  → (tag : TagTree) × (ms : List MemberTree) × (slice_get tags i ≡ Some tag) × (tag.members ≡ Some ms)
+    → (tag : TagTree) × (ms : List MemberTree) × (slice_get tags i ≡ Some tag) × (tag.members ≡ Some ms)
 has_body zero tags i e k = cc
 has_body (suc n) tags i e k = by (slice_get tags i) refl k
   where
     go : (tag : TagTree) → slice_get tags i ≡ Some tag → (o : Option (List MemberTree)) → tag.members ≡ o → members_extent (tag_extent n tags) tag.is_union o ≡ Some e
-      → (tag : TagTree) × (ms : List MemberTree) × (slice_get tags i ≡ Some tag) × (tag.members ≡ Some ms)
+        → (tag : TagTree) × (ms : List MemberTree) × (slice_get tags i ≡ Some tag) × (tag.members ≡ Some ms)
     go tag h None m k = cc
     go tag h (Some ms) m k = (tag, ms, h, m)
 
     by : (o : Option TagTree) → slice_get tags i ≡ o → body_extent (tag_extent n tags) o ≡ Some e
-      → (tag : TagTree) × (ms : List MemberTree) × (slice_get tags i ≡ Some tag) × (tag.members ≡ Some ms)
+        → (tag : TagTree) × (ms : List MemberTree) × (slice_get tags i ≡ Some tag) × (tag.members ≡ Some ms)
     by None h k = cc
     by (Some tag) h k = go tag h tag.members refl k
 
 found : (tags : Tags) → LaidOut tags → (n : ℕ) (t : TypeTree) (e : Extent) → extent (tag_extent n tags) t ≡ Some e
-  → (x : Extent) × (extent (tag_extent (bodied tags) tags) t ≡ Some x)
+    → (x : Extent) × (extent (tag_extent (bodied tags) tags) t ≡ Some x)
 found tags h n (Array t c) e k =
     let r = some_of (extent (tag_extent n tags) t) (repeated c) e k in
     let s = found tags h n t r.0 r.1 in
@@ -98,7 +98,7 @@ Fillable f [] = Unit {0}
 Fillable f (m ∷ ms) = ((x : Extent) × (extent f m.type ≡ Some x)) × Fillable f ms
 
 fill : (f : ℕ → Option Extent) (u : Bool) (so_far : Extent) (ms : List MemberTree) → Fillable f ms
-  → (e : Extent) × (filled f u so_far ms ≡ Some e)
+    → (e : Extent) × (filled f u so_far ms ≡ Some e)
 fill f u so_far [] h = (so_far, refl)
 fill f u so_far (m ∷ ms) h =
     let x = h.0 in
@@ -110,18 +110,19 @@ fillable tags h [] k = tt
 fillable tags h (m ∷ ms) k = let a = k.0 in (found tags h (length tags) m.type a.0 a.1, fillable tags h ms k.1)
 
 fillable_keeps : (f g : ℕ → Option Extent) → ((i : ℕ) (e : Extent) → f i ≡ Some e → g i ≡ Some e) → (ms : List MemberTree)
-  → Fillable f ms → Fillable g ms
+    → Fillable f ms → Fillable g ms
 fillable_keeps f g h [] k = tt
 fillable_keeps f g h (m ∷ ms) k = let a = k.0 in ((a.0, extent_keeps f g h m.type a.0 a.1), fillable_keeps f g h ms k.1)
 
 body_found : (n : ℕ) (tags : Tags) (i : ℕ) (tag : TagTree) (ms : List MemberTree) → slice_get tags i ≡ Some tag → tag.members ≡ Some ms
-  → Fillable (tag_extent n tags) ms → (e : Extent) × (tag_extent (suc n) tags i ≡ Some e)
+    → Fillable (tag_extent n tags) ms → (e : Extent) × (tag_extent (suc n) tags i ≡ Some e)
 body_found n tags i tag ms h m k =
-    let r = fill (tag_extent n tags) tag.is_union nothing_yet ms k in
-    (closed r.0,
-    ap (body_extent (tag_extent n tags)) h
-    ∙ ap (λ o. members_extent (tag_extent n tags) tag.is_union o) m
-    ∙ ap (λ o. on_some o (λ e. Some (closed e))) r.1)
+    let r = fill (tag_extent n tags) tag.is_union nothing_yet ms k in (
+      closed r.0,
+      ap (body_extent (tag_extent n tags)) h
+          ∙ ap (λ o. members_extent (tag_extent n tags) tag.is_union o) m
+          ∙ ap (λ o. on_some o (λ e. Some (closed e))) r.1,
+    )
 
 -- MORE STRUCTURES WITHOUT BODIES
 
@@ -148,7 +149,7 @@ not_bodied (t ∷ ts) h zero tag ms k m = let a = h.0 in let z : t ≡ tag = cc 
 not_bodied (t ∷ ts) h (suc i) tag ms k m = not_bodied ts h.1 i tag ms k m
 
 get_bodied : (tags more : Tags) → AreBodiless more → (i : ℕ) (tag : TagTree) (ms : List MemberTree) → slice_get (tags ++ more) i ≡ Some tag
-  → tag.members ≡ Some ms → slice_get tags i ≡ Some tag
+    → tag.members ≡ Some ms → slice_get tags i ≡ Some tag
 get_bodied [] more h i tag ms k m = absurd (not_bodied more h i tag ms k m)
 get_bodied (t ∷ ts) more h zero tag ms k m = k
 get_bodied (t ∷ ts) more h (suc i) tag ms k m = get_bodied ts more h i tag ms k m
@@ -168,7 +169,7 @@ abbrev with_members : TagTree → List MemberTree → TagTree
 with_members old members = record old { members = or_else old.members (Some members) }
 
 bodied_set : (tags : Tags) (n : ℕ) (old : TagTree) (members : List MemberTree) → slice_get tags n ≡ Some old → old.members ≡ None
-  → bodied (slice_set tags n (with_members old members)) ≡ suc (bodied tags)
+    → bodied (slice_set tags n (with_members old members)) ≡ suc (bodied tags)
 bodied_set [] zero old members h k = cc
 bodied_set [] (suc n) old members h k = cc
 bodied_set (t ∷ ts) zero old members h k =
@@ -179,7 +180,7 @@ bodied_set (t ∷ ts) zero old members h k =
 bodied_set (t ∷ ts) (suc n) old members h k = let a = bodied_set ts n old members h k in omega arith
 
 bodied_same : (tags : Tags) (n : ℕ) (old : TagTree) (members ms : List MemberTree) → slice_get tags n ≡ Some old → old.members ≡ Some ms
-  → bodied (slice_set tags n (with_members old members)) ≡ bodied tags
+    → bodied (slice_set tags n (with_members old members)) ≡ bodied tags
 bodied_same [] zero old members ms h k = cc
 bodied_same [] (suc n) old members ms h k = cc
 bodied_same (t ∷ ts) zero old members ms h k =
@@ -191,7 +192,7 @@ bodied_same (t ∷ ts) (suc n) old members ms h k = let a = bodied_same ts n old
 
 -- what stands in the list then: the one that is set, or what stood there
 set_cases : (tags : Tags) (n : ℕ) (new : TagTree) (i : ℕ) (tag : TagTree) → slice_get (slice_set tags n new) i ≡ Some tag
-  → ((i ≡ n) × (tag ≡ new)) ⊎ (slice_get tags i ≡ Some tag)
+    → ((i ≡ n) × (tag ≡ new)) ⊎ (slice_get tags i ≡ Some tag)
 set_cases [] zero new zero tag e = inr e
 set_cases [] zero new (suc i) tag e = inr e
 set_cases [] (suc n) new zero tag e = inr e
@@ -209,7 +210,7 @@ some_inj : {A : Type 0} (x y : A) → Some x ≡ Some y → x ≡ y
 some_inj x y e = cc
 
 laid_new : (tags after : Tags) (n : ℕ) (old : TagTree) (members : List MemberTree) → slice_get tags n ≡ Some old → old.members ≡ None
-  → after ≡ slice_set tags n (with_members old members) → HaveSizes tags members → LaidOut tags → Grows tags after → LaidOut after
+    → after ≡ slice_set tags n (with_members old members) → HaveSizes tags members → LaidOut tags → Grows tags after → LaidOut after
 laid_new tags after n old members h k a sizes laid g i tag ms e m =
     by (set_cases tags n (with_members old members) i tag (ap (λ x. slice_get x i) (sym a) ∙ e))
   where
@@ -222,7 +223,7 @@ laid_new tags after n old members h k a sizes laid g i tag ms e m =
         let c = ap (λ o. or_else o (Some members)) k in
         let z : members ≡ ms = some_inj members ms (sym c ∙ sym (ap (λ x. x.members) r.1) ∙ m) in
         let f = fillable_keeps (tag_extent (bodied tags) tags) (tag_extent (bodied tags) after)
-          (deeper_keeps tags after b (bodied tags) (bodied tags) (omega arith)) members (fillable tags laid members sizes) in
+        (deeper_keeps tags after b (bodied tags) (bodied tags) (omega arith)) members (fillable tags laid members sizes) in
         let x = body_found (bodied tags) after i tag ms e m (subst (λ y. Fillable (tag_extent (bodied tags) after) y) z f) in
         (x.0, ap (λ d. tag_extent d after i) bodies_then ∙ x.1)
     by (inr r) =
@@ -232,7 +233,7 @@ laid_new tags after n old members h k a sizes laid g i tag ms e m =
         (x.0, deeper_keeps tags after b (bodied tags) (bodied after) (omega arith) i x.0 x.1)
 
 laid_kept : (tags after : Tags) (n : ℕ) (old : TagTree) (members kept : List MemberTree) → slice_get tags n ≡ Some old → old.members ≡ Some kept
-  → after ≡ slice_set tags n (with_members old members) → LaidOut tags → Grows tags after → LaidOut after
+    → after ≡ slice_set tags n (with_members old members) → LaidOut tags → Grows tags after → LaidOut after
 laid_kept tags after n old members kept h k a laid g i tag ms e m =
     by (set_cases tags n (with_members old members) i tag (ap (λ x. slice_get x i) (sym a) ∙ e))
   where
@@ -251,36 +252,36 @@ laid_kept tags after n old members kept h k a laid g i tag ms e m =
     by (inr r) = found_in tag ms r m
 
 pub laid_body : (tags : Tags) (n : ℕ) (members : List MemberTree) → HaveSizes tags members → LaidOut tags
-  → LaidOut (with_body n members (slice_get tags n) tags)
+    → LaidOut (with_body n members (slice_get tags n) tags)
 laid_body tags n members sizes laid = by (slice_get tags n) refl (body_grows tags n members)
   where
     go : (old : TagTree) → slice_get tags n ≡ Some old → (o : Option (List MemberTree)) → old.members ≡ o
-      → Grows tags (slice_set tags n (with_members old members)) → LaidOut (slice_set tags n (with_members old members))
+        → Grows tags (slice_set tags n (with_members old members)) → LaidOut (slice_set tags n (with_members old members))
     go old h None k g = laid_new tags (slice_set tags n (with_members old members)) n old members h k refl sizes laid g
     go old h (Some kept) k g = laid_kept tags (slice_set tags n (with_members old members)) n old members kept h k refl laid g
 
     by : (o : Option TagTree) → slice_get tags n ≡ o → Grows tags (with_body n members (slice_get tags n) tags)
-      → LaidOut (with_body n members o tags)
+        → LaidOut (with_body n members o tags)
     by None h g = laid
     by (Some old) h g = go old h old.members refl (subst (λ o. Grows tags (with_body n members o tags)) h g)
 
 -- NONE CONTAINS ITSELF
 
 within : (f : ℕ → Option Extent) (ends : ℕ → Type 0) → ((i : ℕ) (e : Extent) → f i ≡ Some e → ends i) → (t : TypeTree) (e : Extent)
-  → extent f t ≡ Some e → Within ends t
+    → extent f t ≡ Some e → Within ends t
 within f ends h (Array t n) e k = let r = some_of (extent f t) (repeated n) e k in within f ends h t r.0 r.1
 within f ends h (Tagged i) e k = h i e k
 within f ends h _ e k = tt
 
 are_within : (f : ℕ → Option Extent) (ends : ℕ → Type 0) → ((i : ℕ) (e : Extent) → f i ≡ Some e → ends i) → (u : Bool) (so_far : Extent)
-  (ms : List MemberTree) (e : Extent) → filled f u so_far ms ≡ Some e → AreWithin ends ms
+    (ms : List MemberTree) (e : Extent) → filled f u so_far ms ≡ Some e → AreWithin ends ms
 are_within f ends h u so_far [] e k = tt
 are_within f ends h u so_far (m ∷ ms) e k =
     let r = some_of (extent f m.type) (λ x. filled f u (with_member u so_far x) ms) e k in
     (within f ends h m.type r.0 r.1, are_within f ends h u (with_member u so_far r.0) ms e r.2)
 
 tag_within : (f : ℕ → Option Extent) (ends : ℕ → Type 0) → ((i : ℕ) (e : Extent) → f i ≡ Some e → ends i) → (o : Option TagTree) (e : Extent)
-  → body_extent f o ≡ Some e → TagWithin ends o
+    → body_extent f o ≡ Some e → TagWithin ends o
 tag_within f ends h None e k = tt
 tag_within f ends h (Some tag) e k = by tag.members k
   where

@@ -1,5 +1,5 @@
 -- Typing adds one type and one meaning for each node, and structures keep what bodies they have.
-use Rattle.std.proofs.Common.{◌≡◌, ◌≤◌, ◌<◌, ℕ, zero, suc, ◌+◌, Bool, true, false, not, ◌&&◌, ◌||◌, ◌==◌, if◌then◌else◌, List, [], ◌∷◌, ◌++◌, length, length-append, slice_get, slice_set, reverse, map, Option, Some, None, Result, Ok, Err, refl, sym, ap, subst, ◌∙◌, arith}
+use Rattle.std.proofs.Common.{◌≡◌, ℕ, zero, suc, ◌+◌, Bool, true, false, not, ◌==◌, if◌then◌else◌, List, [], ◌∷◌, ◌++◌, length, length-append, slice_set, reverse, map, Option, Some, None, Result, Ok, Err, refl, sym, ap, subst, ◌∙◌, arith}
 use Rattle.std.specs.List.{list_all}
 use Rattle.std.proofs.lemmas.List.{length-set}
 use Rattle.p9_lang.specs.Names.{is_nameless, is_among}
@@ -7,21 +7,21 @@ use Rattle.p9_lang.specs.declared.tree.Kind.{Kind}
 use Rattle.p9_lang.specs.declared.tree.Kind.TheVariants as kind
 use Rattle.p9_lang.specs.declared.tree.EntryBy.{EntryBy}
 use Rattle.p9_lang.specs.Trees.{node, none, more, Syntax, SyntaxRow, nodes_of, nodes_of_row}
-use Rattle.p9_lang.specs.Types.{TypeTree, Void, Char, UChar, Short, UShort, Int, UInt, Long, ULong, Pointer, Array, Function, Tagged, TagTree, Meant, Nothing, Static, MemberTree, Tags}
+use Rattle.p9_lang.specs.Types.{TypeTree, Void, Int, Array, Meant, Nothing, Static, MemberTree, Tags}
 use Rattle.p9_lang.specs.Rules.{Rule, Malformed, Incomplete, BadOperands, BadConstant, breaks_if, Undeclared, Redeclared, at_node, Broken, unless, and_then, first_of}
-use Rattle.p9_lang.specs.Scopes.{Known, Declared, Keyword, TagName, Tagging, known_first, tag_from, known_tag, new_tag, new_structure, tagged_as, complete_tag, with_node, next_node, close_level, close_block, in_levels, in_level, innermost, around, Struct, Union, Enum}
-use Rattle.p9_lang.specs.Declarators.{LengthBy, Step, Shape, Unsized, Sized, Points, Keeps, Head, Storage, NameNode, Words, Named, Structure, Enumeration, head_of, storage_of, closed, closed_from, shaped, broken_at, makes_no_type, with_length, adjusted, name_of, naming_rules, sized_rules, own_list, ByNothing, ByCaller, Declaring}
+use Rattle.p9_lang.specs.Scopes.{Known, Declared, Keyword, TagName, Tagging, known_first, tag_from, known_tag, new_tag, new_structure, tagged_as, with_node, next_node, close_level, close_block, in_levels, in_level, innermost, around, Struct, Union, Enum}
+use Rattle.p9_lang.specs.Declarators.{LengthBy, Step, Shape, Unsized, Sized, Points, Keeps, Head, Storage, NameNode, Words, Named, Structure, Enumeration, head_of, storage_of, closed, closed_from, shaped, broken_at, makes_no_type, with_length, adjusted, name_of, naming_rules, sized_rules, ByNothing, ByCaller, Declaring}
 use Rattle.p9_lang.specs.Parts.{Role, EntryOf, Context, Part, Value, Declarator, Object, Members, Enumerator, Parameter, NamedType, Braced, Filled, CaseLabel, Statement, DefaultLabel, Frame, Judged, file_context, kind_at, object_type, last_object, name_in, object_role, object_names, or_object, declared_members, or_unnamed, members_in, Plain, follows, length_by}
 use Rattle.p9_lang.specs.Layout.{Extent, layout, has_layout, is_complete, is_within_limit}
 use Rattle.p9_lang.specs.Conversions.{is_structure}
 use Rattle.p9_lang.specs.Constants.{Operand, Constant}
 use Rattle.p9_lang.specs.Expressions.{Verdict, verdict}
-use Rattle.p9_lang.specs.Opening.{opened, context, of_head, of_structure}
+use Rattle.p9_lang.specs.Opening.{opened, context, of_head}
 use Rattle.p9_lang.specs.Declaring.{broken_rules, behind, last_node, named_with, declare_object, declare_as, with_body_open, open_body, parameter_count, declare_member, declare_parameter, parameter_meaning, parameter_rules, declared_parameter, member_rules, names_in_braces, initialiser_role, declared_meaning, close_type, declared, function_declaring, object_declaring, enumerated, enumerator_value, constant_meaning, complete_if, with_members, with_length_given, with_given_length, length_rules, declared_before, unless_broken, initialiser_rules, given_length, retyped, initialised}
 use Rattle.p9_lang.specs.Entries.{is_index_next}
-use Rattle.p9_lang.specs.Files.{typed_file, typing_of, names_with_bodies, mark_tag, mark_tags}
+use Rattle.p9_lang.specs.Files.{typing_of, names_with_bodies}
 use Rattle.p9_lang.specs.TypingLaws.{EachNodeIsTyped, SizesStay, StructuresEnd}
-use Rattle.p9_lang.specs.TagRules.{Within, AreWithin, BodyWithin, TagWithin, Ends, NoneContainsItself}
+use Rattle.p9_lang.specs.TagRules.{NoneContainsItself}
 use Rattle.p9_lang.proofs.Bodies.{HasSize, HaveSizes, LaidOut, AreBodiless, laid_first, laid_appended, laid_body, size_stays, sizes_stay_all, sizes_append, laid_out_ends}
 use Rattle.p9_lang.proofs.Marks.{marks_keep_ends}
 use Rattle.p9_lang.proofs.Growing.{Grows, stays, then_grows, appended_grows, body_grows}
@@ -113,13 +113,13 @@ pub err_gives : (asked : TypeTree → Type 0) (n : ℕ) (s : Known) (b : Broken)
 err_gives asked n s b r e = cc
 
 pub ok_gives : (asked : TypeTree → Type 0) (s q : Known) (part : Part) → SameNodes s q → Laid asked q.tags part
-  → Gives asked 0 s (Ok (part, q))
+    → Gives asked 0 s (Ok (part, q))
 ok_gives asked s q part h l r e =
     let z : (part, q) ≡ r = cc in
     subst (λ x. More 0 s x.1 × Laid asked x.1.tags x.0) z (none_more s q h, l)
 
 pub if_gives : (asked : TypeTree → Type 0) (n : ℕ) (s : Known) (b : Bool) (x y : Judged) → Gives asked n s x → Gives asked n s y
-  → Gives asked n s (if b then x else y)
+    → Gives asked n s (if b then x else y)
 if_gives asked n s true x y h k = h
 if_gives asked n s false x y h k = k
 
@@ -134,13 +134,13 @@ one_more s q type means h =
     record { types = a ∙ omega arith; means = b ∙ omega arith; grows = h.grows; laid = h.laid }
 
 pub has_gives : (rules : List Rule) (type : TypeTree) (means : Meant) (part : Part) (s q : Known) → SameNodes s q
-  → Laid (λ type. ⊥) q.tags part → Judges s (has rules type means part q)
+    → Laid (λ type. ⊥) q.tags part → Judges s (has rules type means part q)
 has_gives rules type means part s q h l r e =
     let z = unless_of (broken_rules (next_node q) rules) (part, with_node type means q) r e in
     subst (λ x. More 1 s x.1 × Laid (λ type. ⊥) x.1.tags x.0) z (one_more s q type means h, l)
 
 pub typeless_gives : (rules : List Rule) (part : Part) (s q : Known) → SameNodes s q → Laid (λ type. ⊥) q.tags part
-  → Judges s (typeless rules part q)
+    → Judges s (typeless rules part q)
 typeless_gives rules part s q h l = has_gives rules Void Nothing part s q h l
 
 stepped_gives : (steps : List Step) (shape : Shape) (s q : Known) → SameNodes s q → Judges s (stepped steps shape q)
@@ -244,7 +244,7 @@ unnamed_size tags base o z e =
     (not_broken (is_complete tags base) Incomplete (first_empty (breaks_if (not (is_complete tags base)) Incomplete) (breaks_if (not (is_structure base)) BadOperands) r))
 
 members_sized : (tags : Tags) (base : TypeTree) (parts : List Part) → AllLaid (HasSize tags) tags parts
-  → unnamed_rules tags base (last_object parts) ≡ [] → HaveSizes tags (or_unnamed base (declared_members base parts))
+    → unnamed_rules tags base (last_object parts) ≡ [] → HaveSizes tags (or_unnamed base (declared_members base parts))
 members_sized tags base parts l e = by (declared_members base parts) refl (declared_sizes tags base parts l)
   where
     by : (ms : List MemberTree) → declared_members base parts ≡ ms → HaveSizes tags ms → HaveSizes tags (or_unnamed base ms)
@@ -376,7 +376,7 @@ named_of last rules (Ok x) made e = ap (λ y. Ok y) (unless_of (broken_rules las
 named_of last rules (Err b) made e = cc
 
 named_none : (last : ℕ) (rules : Option TypeTree → List Rule) (m : Result (TypeTree × List TypeTree) Broken) (made : TypeTree × List TypeTree)
-  → named_with last rules m ≡ Ok made → rules (Some made.0) ≡ []
+    → named_with last rules m ≡ Ok made → rules (Some made.0) ≡ []
 named_none last rules (Ok x) made e =
     let z = unless_of (broken_rules last (rules (Some x.0))) x made e in
     ap (λ y. rules (Some y.0)) (sym z) ∙ no_rules last (rules (Some x.0)) x made e
@@ -384,9 +384,9 @@ named_none last rules (Err b) made e = cc
 
 -- what follows on a closed declarator
 closing_gives : (asked : TypeTree → Type 0) (s : Known) (rules : Option TypeTree → List Rule) (by : LengthBy) (base : TypeTree)
-  (steps : List Step) (next : TypeTree × List TypeTree → Judged)
-  → ((made : TypeTree × List TypeTree) → length made.1 ≡ length s.types → rules (Some made.0) ≡ [] → Gives asked 0 s (next made))
-  → Gives asked 0 s (and_then (named_with (last_node s) rules (closed s.tags by base steps s.types)) next)
+    (steps : List Step) (next : TypeTree × List TypeTree → Judged)
+    → ((made : TypeTree × List TypeTree) → length made.1 ≡ length s.types → rules (Some made.0) ≡ [] → Gives asked 0 s (next made))
+    → Gives asked 0 s (and_then (named_with (last_node s) rules (closed s.tags by base steps s.types)) next)
 closing_gives asked s rules by base steps next h r e =
     let made = then_of (named_with (last_node s) rules (closed s.tags by base steps s.types)) next r e in
     h made.0
@@ -395,15 +395,15 @@ closing_gives asked s rules by base steps next h r e =
     (named_none (last_node s) rules (closed s.tags by base steps s.types) made.0 made.1) r made.2
 
 bare_gives : (asked : TypeTree → Type 0) (s : Known) (by : LengthBy) (base : TypeTree) (steps : List Step)
-  (next : TypeTree × List TypeTree → Judged)
-  → ((made : TypeTree × List TypeTree) → length made.1 ≡ length s.types → Gives asked 0 s (next made))
-  → Gives asked 0 s (and_then (closed s.tags by base steps s.types) next)
+    (next : TypeTree × List TypeTree → Judged)
+    → ((made : TypeTree × List TypeTree) → length made.1 ≡ length s.types → Gives asked 0 s (next made))
+    → Gives asked 0 s (and_then (closed s.tags by base steps s.types) next)
 bare_gives asked s by base steps next h r e =
     let made = then_of (closed s.tags by base steps s.types) next r e in
     h made.0 (closed_length s.tags by base (reverse steps) s.types made.0 made.1) r made.2
 
 object_gives : (d : Declaring) (by : LengthBy) (base : TypeTree) (steps : List Step) (n : Option NameNode) (s : Known)
-  → Gives (λ type. Unit {0}) 0 s (declare_object d by base steps n s)
+    → Gives (λ type. Unit {0}) 0 s (declare_object d by base steps n s)
 object_gives d by base steps None s = err_gives (λ type. Unit {0}) 0 s (at_node (last_node s) Malformed)
 object_gives d by base steps (Some n) s =
     closing_gives (λ type. Unit {0}) s (naming_rules s.tags d n.name (in_level n.name (innermost s.names))) by base steps
@@ -422,7 +422,7 @@ object_gives d by base steps (Some n) s =
     tt)
 
 body_gives : (steps : List Step) (s : Known) (x : Part × Known) → More 0 s x.1 → Laid (λ type. Unit {0}) x.1.tags x.0
-  → Gives (λ type. Unit {0}) 0 s (with_body_open steps x)
+    → Gives (λ type. Unit {0}) 0 s (with_body_open steps x)
 body_gives steps s x h l r e =
     let q = record x.1 { autos = parameter_count (object_type (Some x.0) Void) } in
     let z : (x.0, open_body steps q) ≡ r = cc in
@@ -430,7 +430,7 @@ body_gives steps s x h l r e =
     (record { types = h.types; means = h.means; grows = h.grows; laid = h.laid }, l)
 
 function_gives : (steps : List Step) (s : Known) (m : Judged) → Gives (λ type. Unit {0}) 0 s m
-  → Gives (λ type. Unit {0}) 0 s (and_then m (with_body_open steps))
+    → Gives (λ type. Unit {0}) 0 s (and_then m (with_body_open steps))
 function_gives steps s m h r e =
     let x = then_of m (with_body_open steps) r e in
     let g = h x.0 x.1 in
@@ -444,7 +444,7 @@ sized_type tags names x type e =
     (last_empty (breaks_if (is_among names x) (Redeclared x)) (sized_rules tags type) e)))
 
 member_gives : (f : Frame) (before : List Part) (steps : List Step) (n : Option NameNode) (s : Known)
-  → Gives (HasSize s.tags) 0 s (declare_member f before steps n s)
+    → Gives (HasSize s.tags) 0 s (declare_member f before steps n s)
 member_gives f before steps None s = err_gives (HasSize s.tags) 0 s (at_node (last_node s) Malformed)
 member_gives f before steps (Some n) s =
     closing_gives (HasSize s.tags) s (member_rules s.tags (names_in_braces f.context.role ++ object_names before) n.name) ByNothing f.base steps
@@ -454,7 +454,7 @@ member_gives f before steps (Some n) s =
     (sized_type s.tags (names_in_braces f.context.role ++ object_names before) n.name made.0 none))
 
 parameter_gives : (f : Frame) (steps : List Step) (n : Option NameNode) (s : Known)
-  → Gives (λ type. Unit {0}) 0 s (declare_parameter f steps n s)
+    → Gives (λ type. Unit {0}) 0 s (declare_parameter f steps n s)
 parameter_gives f steps None s =
     bare_gives (λ type. Unit {0}) s ByCaller f.base steps
     (λ made. Ok (Object (adjusted made.0) steps (last_node s) Plain, record s { types = made.1 }))
@@ -479,7 +479,7 @@ type_gives f steps s =
     (record { types = h; means = refl; grows = stays s.tags; laid = λ h. h }) tt)
 
 declared_gives : (k : Kind) (f : Frame) (before : List Part) (steps : List Step) (rest : SyntaxRow) (s : Known)
-  → Gives (Asked k s.tags) 0 s (declared k f before steps rest s)
+    → Gives (Asked k s.tags) 0 s (declared k f before steps rest s)
 declared_gives (kind.Declaration spec inits) f before steps rest s =
     object_gives (object_declaring f (follows rest) s) (length_by (follows rest)) f.base steps (name_of steps) s
 declared_gives (kind.Function spec) f before steps rest s =
@@ -490,7 +490,7 @@ declared_gives (kind.NamedType spec) f before steps rest s = type_gives f steps 
 declared_gives k f before steps rest s = ok_gives (Asked k s.tags) s s (Declarator steps) (same s) tt
 
 unless_gives : (asked : TypeTree → Type 0) (broken : List Broken) (s q : Known) (part : Part) → SameNodes s q → Laid asked q.tags part
-  → Gives asked 0 s (unless broken (part, q))
+    → Gives asked 0 s (unless broken (part, q))
 unless_gives asked broken s q part h l r e = ok_gives asked s q part h l r (ap (λ x. Ok x) (unless_of broken (part, q) r e))
 
 enumerated_gives : (asked : TypeTree → Type 0) (x : List ℕ) (value : Constant) (s : Known) → Gives asked 0 s (enumerated x value s)
@@ -499,7 +499,7 @@ enumerated_gives asked x value s =
     (record { types = refl; means = length-set s.means (last_node s) (constant_meaning value); grows = stays s.tags; laid = λ h. h }) tt
 
 complete_same : (is_last : Bool) (tag : Option ℕ) (members : List MemberTree) (s : Known) → HaveSizes s.tags members
-  → SameNodes s (complete_if is_last tag members s)
+    → SameNodes s (complete_if is_last tag members s)
 complete_same is_last None members s k = same s
 complete_same false (Some number) members s k = same s
 complete_same true (Some number) members s k =
@@ -511,24 +511,24 @@ complete_same true (Some number) members s k =
     }
 
 given_length_same : (base : TypeTree) (steps : List Step) (last count : ℕ) (x : List ℕ) (s q : Known)
-  → with_given_length base steps last count x s ≡ Ok q → SameNodes s q
+    → with_given_length base steps last count x s ≡ Ok q → SameNodes s q
 given_length_same base steps last count x s q e =
     let made = then_of
-      (named_with last (length_rules x (declared_before x (innermost s.names))) (closed s.tags ByNothing base (map (with_length count) steps) s.types))
-      (λ made. Ok (record s { types = made.1; names = retyped x made.0 (innermost s.names) ∷ around s.names })) q e in
+    (named_with last (length_rules x (declared_before x (innermost s.names))) (closed s.tags ByNothing base (map (with_length count) steps) s.types))
+    (λ made. Ok (record s { types = made.1; names = retyped x made.0 (innermost s.names) ∷ around s.names })) q e in
     let types = closed_length s.tags ByNothing base (reverse (map (with_length count) steps)) s.types made.0
-      (named_of last (length_rules x (declared_before x (innermost s.names)))
-      (closed s.tags ByNothing base (map (with_length count) steps) s.types) made.0 made.1) in
+    (named_of last (length_rules x (declared_before x (innermost s.names)))
+    (closed s.tags ByNothing base (map (with_length count) steps) s.types) made.0 made.1) in
     let m = made.2 in
     let z : record s { types = made.0.1; names = retyped x made.0.0 (innermost s.names) ∷ around s.names } ≡ q = cc in
     subst (λ y. SameNodes s y) z (record { types = types; means = refl; grows = stays s.tags; laid = λ h. h })
 
 given_tags : (base : TypeTree) (steps : List Step) (last count : ℕ) (x : List ℕ) (s q : Known)
-  → with_given_length base steps last count x s ≡ Ok q → q.tags ≡ s.tags
+    → with_given_length base steps last count x s ≡ Ok q → q.tags ≡ s.tags
 given_tags base steps last count x s q e =
     let made = then_of
-      (named_with last (length_rules x (declared_before x (innermost s.names))) (closed s.tags ByNothing base (map (with_length count) steps) s.types))
-      (λ made. Ok (record s { types = made.1; names = retyped x made.0 (innermost s.names) ∷ around s.names })) q e in
+    (named_with last (length_rules x (declared_before x (innermost s.names))) (closed s.tags ByNothing base (map (with_length count) steps) s.types))
+    (λ made. Ok (record s { types = made.1; names = retyped x made.0 (innermost s.names) ∷ around s.names })) q e in
     let m = made.2 in
     let z : record s { types = made.0.1; names = retyped x made.0.0 (innermost s.names) ∷ around s.names } ≡ q = cc in
     ap (λ y. y.tags) (sym z)
@@ -540,22 +540,23 @@ unchanged_tags : (s q : Known) (m : Result Known Broken) → m ≡ Ok s → m �
 unchanged_tags s q m d e = let z : s ≡ q = cc in ap (λ x. x.tags) (sym z)
 
 given_same : (base : TypeTree) (object : Option Part) (part : Part) (s q : Known) → with_length_given base object part s ≡ Ok q
-  → SameNodes s q × (q.tags ≡ s.tags)
-given_same base (Some (Object (Array element zero) steps last role)) part s q e =
-    (given_length_same base steps last (given_length part) (name_in (name_of steps)) s q e,
-    given_tags base steps last (given_length part) (name_in (name_of steps)) s q e)
+    → SameNodes s q × (q.tags ≡ s.tags)
+given_same base (Some (Object (Array element zero) steps last role)) part s q e = (
+  given_length_same base steps last (given_length part) (name_in (name_of steps)) s q e,
+  given_tags base steps last (given_length part) (name_in (name_of steps)) s q e,
+)
 given_same base _ part s q e = (unchanged s q (Ok s) refl e, unchanged_tags s q (Ok s) refl e)
 
 assigned_gives : (asked : TypeTree → Type 0) (base : TypeTree) (object : Option Part) (part : Part) (s : Known) (rules : Known → List Rule)
-  → Laid asked s.tags part
-  → Gives asked 0 s (and_then (with_length_given base object part s) (λ given. unless_broken (rules given) part given))
+    → Laid asked s.tags part
+    → Gives asked 0 s (and_then (with_length_given base object part s) (λ given. unless_broken (rules given) part given))
 assigned_gives asked base object part s rules l r e =
     let x = then_of (with_length_given base object part s) (λ given. unless_broken (rules given) part given) r e in
     let g = given_same base object part s x.0 x.1 in
     unless_gives asked _ s x.0 part g.0 (subst (λ tags. Laid asked tags part) (sym g.1) l) r x.2
 
 initialised_gives : (k : Kind) (f : Frame) (before : List Part) (part : Part) (s : Known) → Laid (Asked k s.tags) s.tags part
-  → Gives (Asked k s.tags) 0 s (initialised k f before part s)
+    → Gives (Asked k s.tags) 0 s (initialised k f before part s)
 initialised_gives (kind.Declaration spec inits) f before part s l =
     assigned_gives (λ type. Unit {0}) f.base (last_object before) part s
     (λ given. initialiser_rules given.tags (object_role (last_object before)) part) l
@@ -581,13 +582,13 @@ members_so_far asked tags (DefaultLabel ∷ parts) l = members_so_far asked tags
 members_so_far asked tags (Statement ∷ parts) l = members_so_far asked tags parts l.1
 
 laid_append : (asked : TypeTree → Type 0) (tags : Tags) (before : List Part) (part : Part) → AllLaid asked tags before → Laid asked tags part
-  → AllLaid asked tags (before ++ part ∷ [])
+    → AllLaid asked tags (before ++ part ∷ [])
 laid_append asked tags [] part l k = (k, tt)
 laid_append asked tags (p ∷ ps) part l k = (l.0, laid_append asked tags ps part l.1 k)
 
 members_give : (asked : TypeTree → Type 0) (f : Frame) (before : List Part) (members : List MemberTree) (s : Known)
-  → AllLaid asked s.tags before → HaveSizes s.tags members
-  → Gives asked 0 s (Ok (Members members, with_members f before (Members members) s))
+    → AllLaid asked s.tags before → HaveSizes s.tags members
+    → Gives asked 0 s (Ok (Members members, with_members f before (Members members) s))
 members_give asked f before members s l k =
     let all = members_so_far asked s.tags (before ++ Members members ∷ []) (laid_append asked s.tags before (Members members) l k) in
     let h = complete_same (suc (length before) == f.braces) f.tag (members_in (before ++ Members members ∷ [])) s all in
@@ -596,7 +597,7 @@ members_give asked f before members s l k =
 
 -- a part as it was judged is no declared object
 behind_gives : (k : Kind) (f : Frame) (before : List Part) (part : Part) (rest : SyntaxRow) (s : Known) → AllLaid (Asked k s.tags) s.tags before
-  → Laid (λ type. ⊥) s.tags part → Gives (Asked k s.tags) 0 s (behind k f before part rest s)
+    → Laid (λ type. ⊥) s.tags part → Gives (Asked k s.tags) 0 s (behind k f before part rest s)
 behind_gives k f before (Value o) rest s b l = initialised_gives k f before (Value o) s tt
 behind_gives k f before (Braced count) rest s b l = initialised_gives k f before (Braced count) s tt
 behind_gives k f before (Declarator steps) rest s b l = declared_gives k f before steps rest s
@@ -631,7 +632,7 @@ laid_stays k before after g DefaultLabel l = tt
 laid_stays k before after g Statement l = tt
 
 all_laid_stay : (k : Kind) (before after : Tags) → Grows before after → (parts : List Part) → AllLaid (Asked k before) before parts
-  → AllLaid (Asked k after) after parts
+    → AllLaid (Asked k after) after parts
 all_laid_stay k before after g [] l = tt
 all_laid_stay k before after g (p ∷ ps) l = (laid_stays k before after g p l.0, all_laid_stay k before after g ps l.1)
 
@@ -666,12 +667,14 @@ mutual
       let z = with_rules_of _ (role_rules c.role k) (and_then (judge_parts k (opened k c s).0 [] parts (opened k c s).1) _) r e in
       let x = then_of (judge_parts k (opened k c s).0 [] parts (opened k c s).1) _ r z in
       let p = parts_give k (opened k c s).0 [] parts (opened k c s).1 tt x.0 x.1 in
-      let j = judged_gives k (opened k c s).0 x.0.0 x.0.1 p.1 r x.2 in
-      (after_same (nodes_of_row parts + 1) s (opened k c s).1 r.1 (opened_same k c s)
-      (then_more (nodes_of_row parts) 1 (opened k c s).1 x.0.1 r.1 p.0 j.0), j.1)
+      let j = judged_gives k (opened k c s).0 x.0.0 x.0.1 p.1 r x.2 in (
+        after_same (nodes_of_row parts + 1) s (opened k c s).1 r.1 (opened_same k c s)
+            (then_more (nodes_of_row parts) 1 (opened k c s).1 x.0.1 r.1 p.0 j.0),
+        j.1,
+      )
 
   parts_give : (k : Kind) (f : Frame) (before : List Part) (ts : SyntaxRow) (s : Known) → AllLaid (Asked k s.tags) s.tags before
-    → (r : List Part × Known) → judge_parts k f before ts s ≡ Ok r → More (nodes_of_row ts) s r.1 × AllLaid (Asked k r.1.tags) r.1.tags r.0
+      → (r : List Part × Known) → judge_parts k f before ts s ≡ Ok r → More (nodes_of_row ts) s r.1 × AllLaid (Asked k r.1.tags) r.1.tags r.0
   parts_give k f before none s b r e =
       let z : (before, s) ≡ r = cc in
       subst (λ x. More 0 s x.1 × AllLaid (Asked k x.1.tags) x.1.tags x.0) z (none_more s s (same s), b)
@@ -686,7 +689,7 @@ mutual
       let before_last = all_laid_stay k x.0.1.tags y.0.1.tags grown_more.grows before before_then in
       let part_last = laid_later k x.0.1 y.0.1 grown_more.grows y.0.0 second.1 in
       let others = parts_give k f (before ++ y.0.0 ∷ []) ts y.0.1
-        (laid_append (Asked k y.0.1.tags) y.0.1.tags before y.0.0 before_last part_last) r y.2 in
+      (laid_append (Asked k y.0.1.tags) y.0.1.tags before y.0.0 before_last part_last) r y.2 in
       (then_more (nodes_of t) (nodes_of_row ts) s y.0.1 r.1 (zero_more (nodes_of t) s x.0.1 y.0.1 first.0 second.0) others.0, others.1)
 
 items_give : (items : SyntaxRow) (s r : Known) → judge_items items s ≡ Ok r → More (nodes_of_row items) s r

@@ -1,6 +1,6 @@
 -- Marks leave structures as they are, but for the mark.
-use Rattle.std.proofs.Common.{◌≡◌, ◌<◌, ℕ, zero, suc, Bool, true, false, if◌then◌else◌, List, [], ◌∷◌, length, slice_get, Option, Some, None, refl, sym, ap, subst, arith}
-use Rattle.p9_lang.specs.Types.{TypeTree, Void, Char, UChar, Short, UShort, Int, UInt, Long, ULong, Pointer, Array, Function, Tagged, MemberTree, TagTree, Tags}
+use Rattle.std.proofs.Common.{◌≡◌, ℕ, zero, suc, Bool, true, false, if◌then◌else◌, List, [], ◌∷◌, length, slice_get, Option, Some, None, refl, sym, ap, subst, arith}
+use Rattle.p9_lang.specs.Types.{TypeTree, Array, Tagged, MemberTree, TagTree, Tags}
 use Rattle.p9_lang.specs.Scopes.{TagName}
 use Rattle.p9_lang.specs.TagRules.{Within, AreWithin, BodyWithin, TagWithin, Ends, NoneContainsItself}
 use Rattle.p9_lang.specs.Files.{mark_tag, mark_tags}
@@ -52,6 +52,6 @@ marks_keep_ends marks [] tags h = h
 marks_keep_ends marks (t ∷ ts) tags h = by _ (marks_keep_ends marks ts tags h)
   where
     by : (b : Bool) → NoneContainsItself (mark_tags marks ts tags)
-      → NoneContainsItself (if b then mark_tag t.number (mark_tags marks ts tags) else mark_tags marks ts tags)
+        → NoneContainsItself (if b then mark_tag t.number (mark_tags marks ts tags) else mark_tags marks ts tags)
     by true k = mark_keeps_ends t.number (mark_tags marks ts tags) k
     by false k = k

@@ -1,10 +1,9 @@
 -- Members stand inside their structure, aligned, and those of a structure apart.
-use Rattle.std.proofs.Common.{◌<◌, ◌≡◌, ◌≤◌, ℕ, zero, suc, ◌+◌, ◌-◌, ◌*◌, ◌/◌, ◌%◌, max, Bool, true, false, List, [], ◌∷◌, length, slice_get, Option, Some, None, refl, sym, ap, subst, ◌∙◌, arith}
+use Rattle.std.proofs.Common.{◌≡◌, ◌≤◌, ℕ, zero, suc, ◌+◌, ◌-◌, ◌*◌, ◌/◌, Bool, true, false, List, [], ◌∷◌, length, slice_get, Option, Some, None, refl, sym, ap, subst, ◌∙◌, arith}
 use Rattle.std.proofs.Math.Nat.{mod-add-div, mod-lt}
 use Rattle.p9_lang.specs.Types.{TypeTree, Void, Char, UChar, Short, UShort, Int, UInt, Long, ULong, Pointer, Array, Function, Tagged, MemberTree, TagTree, Tags}
 use Rattle.p9_lang.specs.Layout.{Extent, on_some, extent, repeated, rounded, member_offset, with_member, filled, closed, nothing_yet, members_extent, body_extent, tag_extent, layout, size_of, alignment_of, size_in, alignment_in}
 use Rattle.p9_lang.specs.Members.{Placed, or_empty, placed_from, placed_in_body, placed_in_tag}
-use Rattle.p9_lang.specs.TagRules.{NoneContainsItself}
 use Rattle.p9_lang.specs.Laws.{IsPlacedIn, ArePlacedIn, StandFrom, StandAtStart, StandApart, MembersArePlaced}
 use Rattle.p9_lang.proofs.Layouts.{layout_is_that_of_members}
 

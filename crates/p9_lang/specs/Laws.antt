@@ -1,5 +1,5 @@
 -- Laws of layout and of agreement.
-use Rattle.std.specs.Prelude.{◌≡◌, ◌≤◌, ℕ, ◌+◌, ◌*◌, Bool, true, false, IsTrue, List, [], ◌∷◌, length, slice_get, Option, Some}
+use Rattle.std.specs.Prelude.{◌≡◌, ◌≤◌, ℕ, ◌+◌, ◌*◌, Bool, true, false, IsTrue, List, [], ◌∷◌, length, slice_get, Some}
 use Rattle.p9_lang.specs.Types.{TypeTree, Tagged, MemberTree, TagTree, Tags}
 use Rattle.p9_lang.specs.Layout.{Extent, layout, size_of, alignment_of, body_extent}
 use Rattle.p9_lang.specs.Members.{Placed, placed}

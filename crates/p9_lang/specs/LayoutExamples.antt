@@ -1,11 +1,11 @@
 -- Sizes, members, constants and agreement, computed.
-use Rattle.std.specs.Prelude.{◌≡◌, ℕ, ◌+◌, ◌-◌, ◌^◌, Bool, true, false, List, [], ◌∷◌, Option, Some, None, Result, Ok, Err, codes}
+use Rattle.std.specs.Prelude.{◌≡◌, ℕ, ◌-◌, ◌^◌, Bool, true, false, List, [], ◌∷◌, Option, Some, None, Ok, Err, codes}
 use Rattle.p9_lang.specs.declared.tree.CBinary.TheVariants as operator
 use Rattle.p9_lang.specs.Types.{TypeTree, Void, Char, UChar, Short, Int, UInt, Pointer, Array, Function, Tagged, MemberTree, TagTree, Tags}
 use Rattle.p9_lang.specs.Types as types
 use Rattle.p9_lang.specs.Layout.{Extent, layout}
-use Rattle.p9_lang.specs.Members.{Found, At, Missing, Ambiguous, Incomplete, find_member, Sought, Nowhere, One, Several, find_substructure}
-use Rattle.p9_lang.specs.Constants.{WordFault, Divide, Shift, word_operation, narrowed}
+use Rattle.p9_lang.specs.Members.{At, Missing, Ambiguous, Incomplete, find_member, Nowhere, One, find_substructure}
+use Rattle.p9_lang.specs.Constants.{Divide, Shift, word_operation, narrowed}
 use Rattle.p9_lang.specs.Agreement.{agrees}
 
 abbrev pub of : List ℕ → TypeTree → MemberTree

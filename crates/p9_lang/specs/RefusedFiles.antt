@@ -1,14 +1,14 @@
 -- Files that break a rule, with the node and the rule that are told.
-use Rattle.std.specs.Prelude.{◌≡◌, ℕ, true, false, List, [], ◌∷◌, Option, Some, None, Result, Ok, Err, codes}
+use Rattle.std.specs.Prelude.{◌≡◌, ℕ, true, false, [], ◌∷◌, Some, None, Err, codes}
 use Rattle.p9_lang.specs.declared.tree.CBinary.TheVariants as operator
 use Rattle.p9_lang.specs.declared.tree.CUnary.TheVariants as unary
 use Rattle.p9_lang.specs.declared.tree.EntryBy.TheVariants as by
 use Rattle.p9_lang.specs.declared.tree.SpecWord.TheVariants as word
 use Rattle.p9_lang.specs.declared.tree.Kind.TheVariants as kind
 use Rattle.p9_lang.specs.Trees.{SyntaxRow, row}
-use Rattle.p9_lang.specs.ExampleTrees.{leaf, tree, declaration, function, member, parameter, named_type, named, used, number, text, binary}
-use Rattle.p9_lang.specs.Rules.{Rule, Incomplete, Ambiguous, Undeclared, Redeclared, NotLvalue, BadOperands, BadAssign, NotFunction, ArgCount, NoMember, NotScalar, BadConstant, BadReturn, Misplaced, TooManyItems, Broken, at_node}
-use Rattle.p9_lang.specs.Files.{Typing, typed_file}
+use Rattle.p9_lang.specs.ExampleTrees.{leaf, tree, declaration, function, member, parameter, named, used, number, binary}
+use Rattle.p9_lang.specs.Rules.{Rule, Incomplete, Ambiguous, Undeclared, Redeclared, NotLvalue, BadOperands, BadAssign, NotFunction, ArgCount, NoMember, NotScalar, BadConstant, BadReturn, Misplaced, TooManyItems, at_node}
+use Rattle.p9_lang.specs.Files.{typed_file}
 
 -- the file breaks this rule at the node with this number, and no rule before
 abbrev pub Breaks : SyntaxRow → (number : ℕ) → Rule → Type 0

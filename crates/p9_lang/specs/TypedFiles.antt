@@ -1,5 +1,5 @@
 -- Files that are typed: what their nodes stand for, their symbols, and what their initialisers write.
-use Rattle.std.specs.Prelude.{◌≡◌, ℕ, Bool, true, false, List, [], ◌∷◌, ◌++◌, Option, Some, None, Result, Ok, Err, map, filter, codes}
+use Rattle.std.specs.Prelude.{◌≡◌, ℕ, Bool, true, false, List, [], ◌∷◌, ◌++◌, Some, None, Result, Ok, Err, map, filter, codes}
 use Rattle.p9_lang.specs.declared.tree.CBinary.TheVariants as operator
 use Rattle.p9_lang.specs.declared.tree.CUnary.TheVariants as unary
 use Rattle.p9_lang.specs.declared.tree.EntryBy.TheVariants as by
@@ -7,15 +7,14 @@ use Rattle.p9_lang.specs.declared.tree.SpecWord.TheVariants as word
 use Rattle.p9_lang.specs.declared.tree.Kind.TheVariants as kind
 use Rattle.p9_lang.specs.Trees.{SyntaxRow, row}
 use Rattle.p9_lang.specs.ExampleTrees.{leaf, tree, declaration, function, member, parameter, named_type, named, used, number, text, binary}
-use Rattle.p9_lang.specs.Names.{same_name}
 use Rattle.p9_lang.specs.Types.{TypeTree, Void, Char, Int, Pointer, Array, Function, TypeRow, Meant, Nothing, Outer, Static, Auto, EnumValue, TypeName}
 use Rattle.p9_lang.specs.Types as types
-use Rattle.p9_lang.specs.Rules.{Broken, and_then}
+use Rattle.p9_lang.specs.Rules.{Broken}
 use Rattle.p9_lang.specs.Scopes.{exits_type}
 use Rattle.p9_lang.specs.Modules.{Source}
 use Rattle.p9_lang.specs.Files.{Typing, typed_file, module_of}
-use Rattle.p9_lang.specs.Initialisers.{Base, OuterBase, Content, Word, AddressOf, Bytes, Write, BrokenItem, NotConstant, TooManyItems, all_writes, initialiser_entries}
-use Rattle.p9_lang.specs.Symbols.{Way, Only, Tentative, Initial, Body, Declaration, declarations, declarations_of, SymbolKind, DeclaredOnly, Used, Code, Data, Common, Symbol, symbols}
+use Rattle.p9_lang.specs.Initialisers.{OuterBase, Content, Word, AddressOf, Bytes, Write, BrokenItem, NotConstant, TooManyItems, all_writes, initialiser_entries}
+use Rattle.p9_lang.specs.Symbols.{Way, Only, Tentative, Initial, Body, Declaration, declarations, declarations_of, SymbolKind, DeclaredOnly, Used, Code, Data, Common, symbols}
 
 -- TYPES AND MEANINGS
 

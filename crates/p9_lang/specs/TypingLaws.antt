@@ -1,5 +1,5 @@
 -- Laws of typing.
-use Rattle.std.specs.Prelude.{◌≡◌, ◌≤◌, ℕ, List, length, Option, Some, Result, Ok}
+use Rattle.std.specs.Prelude.{◌≡◌, ℕ, List, length, Some, Ok}
 use Rattle.p9_lang.specs.Trees.{Syntax, SyntaxRow, nodes_of_row}
 use Rattle.p9_lang.specs.Types.{TypeTree}
 use Rattle.p9_lang.specs.Layout.{Extent, layout}
