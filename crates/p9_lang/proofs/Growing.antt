@@ -24,7 +24,7 @@ then_grows a b c f g =
       count = omega arith;
     }
 
-append_get : (tags more : Tags) (i : ℕ) (tag : TagTree) → slice_get tags i ≡ Some tag → slice_get (tags ++ more) i ≡ Some tag
+pub append_get : (tags more : Tags) (i : ℕ) (tag : TagTree) → slice_get tags i ≡ Some tag → slice_get (tags ++ more) i ≡ Some tag
 append_get [] more zero tag e = cc
 append_get [] more (suc i) tag e = cc
 append_get (t ∷ ts) more zero tag e = e

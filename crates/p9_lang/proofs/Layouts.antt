@@ -16,7 +16,7 @@ on_some_keeps : {A B : Type 0} (o p : Option A) (next later : A → Option B) (y
 on_some_keeps None p next later y h k e = cc
 on_some_keeps (Some x) p next later y h k e = ap (λ q. on_some q later) (h x refl) ∙ k x e
 
-extent_keeps : (f g : ℕ → Option Extent) → Includes f g → (t : TypeTree) (e : Extent) → extent f t ≡ Some e → extent g t ≡ Some e
+pub extent_keeps : (f g : ℕ → Option Extent) → Includes f g → (t : TypeTree) (e : Extent) → extent f t ≡ Some e → extent g t ≡ Some e
 extent_keeps f g h (Array t n) e k =
     on_some_keeps (extent f t) (extent g t) (repeated n) (repeated n) e (extent_keeps f g h t) (λ x r. r) k
 extent_keeps f g h (Tagged i) e k = h i e k
@@ -55,7 +55,7 @@ body_keeps f g h before after keeps i e = by (slice_get before i) refl
             ap (body_extent g) later.1
             ∙ members_keep f g h tag.is_union later.0.is_union (Some ms) later.0.members e later.3 (λ ns x. later.2 ∙ x) k
 
-deeper_keeps : (before after : Tags) → KeepsBodies before after → (m n : ℕ) → m ≤ n → Includes (tag_extent m before) (tag_extent n after)
+pub deeper_keeps : (before after : Tags) → KeepsBodies before after → (m n : ℕ) → m ≤ n → Includes (tag_extent m before) (tag_extent n after)
 deeper_keeps before after keeps zero n le i e k = cc
 deeper_keeps before after keeps (suc m) zero le i e k = absurd (omega arith)
 deeper_keeps before after keeps (suc m) (suc n) le i e k =

@@ -3,5 +3,7 @@ pub mod Layouts
 pub mod Settling
 pub mod Agreeing
 pub mod Growing
+pub mod Bodies
+pub mod Marks
 pub mod Counting
 pub mod Placing

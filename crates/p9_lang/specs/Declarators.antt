@@ -260,11 +260,15 @@ pub record Declaring : Type 0 where
 abbrev pub is_filled : Declaring → Bool
 is_filled d = d.has_initialiser || d.has_body
 
--- an object has a complete type within the limit; its length may still be given
+-- a member has a complete type within the limit
+abbrev pub sized_rules : Tags → TypeTree → List Rule
+sized_rules tags type =
+    breaks_if (not (is_complete tags type)) Incomplete ++ breaks_if (not (is_within_limit tags type)) BadConstant
+
+-- an object too; its length may still be given
 abbrev pub object_rules : Tags → TypeTree → List Rule
 object_rules tags (Array element zero) = []
-object_rules tags type =
-    breaks_if (not (is_complete tags type)) Incomplete ++ breaks_if (not (is_within_limit tags type)) BadConstant
+object_rules tags type = sized_rules tags type
 
 abbrev pub function_rules : Declaring → List Rule
 function_rules d = breaks_if d.has_initialiser BadOperands ++ breaks_if (not d.is_at_file) Misplaced

@@ -13,7 +13,7 @@ use Rattle.p9_lang.specs.Constants as constants
 use Rattle.p9_lang.specs.Rules.{Rule, Malformed, Redeclared, BadConstant, Misplaced, Broken, at_node, first_of, unless, breaks_if, and_then}
 use Rattle.p9_lang.specs.Expressions.{conversion_rules, assigned_rules, is_null, value_type}
 use Rattle.p9_lang.specs.Scopes.{Known, Declared, innermost, is_file_level, in_level, declare, open_level, next_node, with_meaning, with_type, complete_tag, around}
-use Rattle.p9_lang.specs.Declarators.{is_typedef, is_static, Step, LengthBy, ByNothing, ByCaller, closed, with_length, NameNode, name_of, own_list, adjusted, Declaring, naming_rules, object_rules, is_filled}
+use Rattle.p9_lang.specs.Declarators.{is_typedef, is_static, Step, LengthBy, ByNothing, ByCaller, closed, with_length, NameNode, name_of, own_list, adjusted, Declaring, naming_rules, sized_rules, is_filled}
 use Rattle.p9_lang.specs.Parts.{Role, Part, Frame, Judged, Follows, follows, length_by, has_initialiser, last_object, object_type, object_role, name_in, object_names, members_in, next_value, Plain, ParameterOf, InBraces, Fills, Assigns, Value, Declarator, Object, Members, Enumerator, Braced, CaseLabel, DefaultLabel}
 use Rattle.p9_lang.specs.Entries.{entry_role, is_index_next}
 
@@ -99,7 +99,7 @@ with_body_open steps r =
 -- in one body no two members have the same name
 abbrev pub member_rules : Tags → (names : List (List ℕ)) → List ℕ → Option TypeTree → List Rule
 member_rules tags names x None = breaks_if (is_among names x) (Redeclared x)
-member_rules tags names x (Some type) = breaks_if (is_among names x) (Redeclared x) ++ object_rules tags type
+member_rules tags names x (Some type) = breaks_if (is_among names x) (Redeclared x) ++ sized_rules tags type
 
 abbrev pub names_in_braces : Role → List (List ℕ)
 names_in_braces (InBraces names) = names

@@ -119,14 +119,14 @@ has_initialiser Expression = true
 
 -- PARTS SO FAR
 
+abbrev pub or_object : Option Part → Part → Option Part
+or_object (Some later) part = Some later
+or_object None (Object type steps last role) = Some (Object type steps last role)
+or_object None other = None
+
 abbrev pub last_object : List Part → Option Part
 last_object [] = None
-last_object (part ∷ parts) = by (last_object parts) part
-  where
-    by : Option Part → Part → Option Part
-    by (Some later) part = Some later
-    by None (Object type steps last role) = Some (Object type steps last role)
-    by None other = None
+last_object (part ∷ parts) = or_object (last_object parts) part
 
 abbrev pub object_type : Option Part → (otherwise : TypeTree) → TypeTree
 object_type (Some (Object type steps last role)) otherwise = type

@@ -7,6 +7,7 @@ use Rattle.p9_lang.specs.Scopes.{Known}
 use Rattle.p9_lang.specs.Parts.{Context, Part}
 use Rattle.p9_lang.specs.Typing.{judge}
 use Rattle.p9_lang.specs.Files.{Typing, typed_file}
+use Rattle.p9_lang.specs.TagRules.{NoneContainsItself}
 
 -- a file that is typed has one type and one meaning for each of its nodes
 abbrev pub EachNodeIsTyped : Type 0
@@ -20,3 +21,8 @@ abbrev pub SizesStay : Type 0
 SizesStay =
     (t : Syntax) (c : Context) (s : Known) (r : Part × Known) (type : TypeTree) (e : Extent)
     → judge t c s ≡ Ok r → layout s.tags type ≡ Some e → layout r.1.tags type ≡ Some e
+
+-- no structure of a file that is typed contains itself, so each has the size that its members give
+abbrev pub StructuresEnd : Type 0
+StructuresEnd =
+    (items : SyntaxRow) (marks : List (List ℕ)) (t : Typing) → typed_file items marks ≡ Ok t → NoneContainsItself t.tags

@@ -3,7 +3,7 @@ ghost use Rattle.p9_lang.specs.LayoutExamples.{Agreements, Layouts, WordOperatio
 ghost use Rattle.p9_lang.specs.Laws.{AgreementIsDecided, LayoutIsThatOfMembers, LayoutsStay, MembersArePlaced};
 ghost use Rattle.p9_lang.specs.RefusedFiles.{Refusals};
 ghost use Rattle.p9_lang.specs.TypedFiles.{TypedFiles};
-ghost use Rattle.p9_lang.specs.TypingLaws.{EachNodeIsTyped, SizesStay};
+ghost use Rattle.p9_lang.specs.TypingLaws.{EachNodeIsTyped, SizesStay, StructuresEnd};
 
 /// Sizes and alignments of structures, unions and arrays; members by their names, and through
 /// unnamed substructures.
@@ -70,4 +70,10 @@ pub fn sizes_stay()
 /// behind the other, those of a union at its start.
 pub fn members_are_placed()
     ensures { MembersArePlaced }
+{}
+
+/// No structure of a file that is typed contains itself.
+#[tactic(auto, using(crate::proofs::Counting::structures_end))]
+pub fn structures_end()
+    ensures { StructuresEnd }
 {}

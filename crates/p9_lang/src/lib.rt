@@ -13,7 +13,7 @@ mod types;
 pub use ident::Ident;
 pub use laws::{
     agreement_examples, agreement_is_decided, each_node_is_typed, layout_examples,
-    layout_is_that_of_members, layouts_stay, members_are_placed, refusals, sizes_stay, typed_files,
+    layout_is_that_of_members, layouts_stay, members_are_placed, refusals, sizes_stay, structures_end, typed_files,
     word_examples,
 };
 pub use module::{Bind, Module};
