@@ -13,3 +13,4 @@ pub mod ExamplesOfCalls
 pub mod ExamplesOfFiles
 pub mod ExamplesOfUndefined
 pub mod ExamplesOfWordCounter
+pub mod Constants

@@ -23,3 +23,4 @@ pub mod ExamplesOfCalls
 pub mod ExamplesOfFiles
 pub mod ExamplesOfUndefined
 pub mod ExamplesOfWordCounter
+pub mod ConstantLaws

@@ -1,4 +1,5 @@
 // Laws of the definitions in `specs/`. Each function does nothing; its contract is the law.
+ghost use Rattle.p9_cmean.specs.ConstantLaws.{ConstantsKeepTheirValues};
 ghost use Rattle.p9_cmean.specs.PlayLaws.{BindIsAssociative, CallsTakeTurns, DepthIsEnough, LoopsFollow, LoopsLast, TestedLoopsFollow, TestedLoopsLast};
 ghost use Rattle.p9_cmean.specs.ExamplesOfExpressions.{RunsOfExpressions};
 ghost use Rattle.p9_cmean.specs.ExamplesOfStatements.{RunsOfStatements};
@@ -120,4 +121,10 @@ pub fn runs_of_undefined()
 #[tactic(auto, using(crate::proofs::ExamplesOfWordCounter::runs_of_word_counter))]
 pub fn runs_of_word_counter()
     ensures { RunsOfWordCounter }
+{}
+
+/// The meaning gives integer constant expressions the value that typing gives them.
+#[tactic(auto, using(crate::proofs::Constants::constants_keep_their_values))]
+pub fn constants_keep_their_values()
+    ensures { ConstantsKeepTheirValues }
 {}
