@@ -1,3 +1,4 @@
 pub mod Executable
 pub mod Headline
 pub mod Laws
+pub mod Meaning
