@@ -1,0 +1,14 @@
+pub mod Examples
+pub mod Spelling
+pub mod Reading
+pub mod Calm
+pub mod First
+pub mod Expressions
+pub mod Statements
+pub mod Declarators
+pub mod Heads
+pub mod Declarations
+pub mod Initialisers
+pub mod Complete
+pub mod Nodes
+pub mod Unique
