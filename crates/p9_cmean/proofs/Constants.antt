@@ -1,26 +1,24 @@
 -- The meaning of constant expressions.
-use Rattle.std.proofs.Common.{◌≡◌, ℕ, zero, suc, Bool, true, false, not, ◌&&◌, ◌||◌, if◌then◌else◌, List, [], ◌∷◌, Option, Some, None, Result, Ok, Err, refl, sym, ap, subst, ◌∙◌}
+use Rattle.std.proofs.Common.{◌≡◌, ℕ, Bool, true, false, not, if◌then◌else◌, List, Option, Some, None, Result, Ok, Err, refl, sym, ap, subst, ◌∙◌}
 use Rattle.std.specs.Prelude.{◌==◌, nat_le}
 use Rattle.p9_base.specs.Words.{word_negation, word_complement}
 use Rattle.p9_lang.specs.declared.tree.CBinary.{CBinary}
 use Rattle.p9_lang.specs.declared.tree.CBinary.TheVariants as operator
 use Rattle.p9_lang.specs.declared.tree.CUnary.TheVariants as unary
 use Rattle.p9_lang.specs.declared.tree.Kind.TheVariants as kind
-use Rattle.p9_lang.specs.Types.{TypeTree, Void, Char, UChar, Short, UShort, Int, UInt, Long, ULong, Pointer, Array, Function, Tagged, Tags, Meant, EnumValue}
-use Rattle.p9_lang.specs.Types as types
+use Rattle.p9_lang.specs.Types.{TypeTree, Void, Pointer, Array, Function, Tagged, Tags, Meant, EnumValue}
 use Rattle.p9_lang.specs.Trees.{node, none, more}
 use Rattle.p9_lang.specs.Layout.{Extent, layout, size_of, size_in, size_limit}
-use Rattle.p9_lang.specs.Modules.{Label, Typed, TypedRow}
+use Rattle.p9_lang.specs.Modules.{Typed, TypedRow}
 use Rattle.p9_lang.specs.Conversions.{is_integer, decayed}
-use Rattle.p9_lang.specs.Constants.{Constant, NotConstant, Undefined, Value, Null, WordFault, truth, word_operation, works_unsigned, narrowed, on_word, on_words, also, both_true, one_true, chosen, value_or_undefined, cast_constant, null_if, size_constant, size_constant_in, type_at, constant_of, enumeration_constant}
-use Rattle.p9_cmean.specs.declared.Cause.{Cause}
+use Rattle.p9_lang.specs.Constants.{Constant, NotConstant, Undefined, Value, Null, WordFault, truth, word_operation, works_unsigned, narrowed, on_word, also, value_or_undefined, cast_constant, null_if, size_constant, size_constant_in, type_at, constant_of, enumeration_constant}
 use Rattle.p9_cmean.specs.declared.Place.{Place}
 use Rattle.p9_cmean.specs.Cells as cells
 use Rattle.p9_cmean.specs.Cells.{Word, Object, State}
 use Rattle.p9_cmean.specs.Plays.{Play, Done, bind}
 use Rattle.p9_cmean.specs.Contents.{content_of}
-use Rattle.p9_cmean.specs.Operators.{operation, of_integers, word_or_cause, holds}
-use Rattle.p9_cmean.specs.Places.{done_at, or_no_meaning, used}
+use Rattle.p9_cmean.specs.Operators.{operation, of_integers, word_or_cause}
+use Rattle.p9_cmean.specs.Places.{done_at, or_no_meaning}
 use Rattle.p9_cmean.specs.Expressions as x
 use Rattle.p9_cmean.specs.Expressions.{Surroundings, at, operand_type, value}
 use Rattle.p9_cmean.specs.ConstantLaws.{HasIntegerType, ConstantsAreTyped, ConstantsKeepTheirValues}
