@@ -1,12 +1,12 @@
 -- What an access that is defined says.
-use Rattle.std.proofs.Common.{◌≡◌, ◌≤◌, ◌<◌, ℕ, ◌+◌, ◌%◌, Bool, true, false, not, if◌then◌else◌, nat_lt, List, length, take, drop, Result, Ok, Err, refl, sym, subst}
+use Rattle.std.proofs.Common.{◌≡◌, ◌+◌, ◌%◌, Bool, true, false, not, if◌then◌else◌, nat_lt, List, length, take, drop, Result, Ok, Err, refl, sym, subst}
 use Rattle.std.specs.Prelude.{IsOkAnd, ◌==◌}
 use Rattle.std.proofs.lemmas.Bool.{eqb-true, ltb-false}
 use Rattle.p9_cmean.specs.declared.Cause.{Cause}
 use Rattle.p9_cmean.specs.declared.Cause.TheVariants as cause
-use Rattle.p9_cmean.specs.Cells.{Pointer, Into, ToFunction, Cell, Object}
-use Rattle.p9_cmean.specs.Access.{accessed, object_at, cells_within}
-use Rattle.p9_cmean.specs.RunLaws.{IsAccess, AccessInverts}
+use Rattle.p9_cmean.specs.Cells.{Into, ToFunction, Cell, Object}
+use Rattle.p9_cmean.specs.Access.{object_at}
+use Rattle.p9_cmean.specs.RunLaws.{AccessInverts}
 
 abbrev pub gives : {A : Type 0} → A → Result A Cause
 gives x = Ok x

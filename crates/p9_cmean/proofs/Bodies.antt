@@ -1,6 +1,6 @@
 -- The bodies of functions: their runs only go on; with more turns they do the same; and they take all
 -- their turns before they are cut off.
-use Rattle.std.proofs.Common.{◌≡◌, ◌≤◌, map, ℕ, zero, suc, Bool, true, false, if◌then◌else◌, List, [], ◌∷◌, Option, Some, None, Result, Ok, Err, refl, arith}
+use Rattle.std.proofs.Common.{◌≤◌, map, ℕ, zero, suc, Bool, true, false, if◌then◌else◌, List, Option, Some, None, Result, Ok, Err, refl, arith}
 use Rattle.p9_lang.specs.declared.tree.Kind.TheVariants as kind
 use Rattle.p9_lang.specs.Types.{TypeTree, Meant, row_types}
 use Rattle.p9_lang.specs.Types as types
@@ -8,9 +8,9 @@ use Rattle.p9_lang.specs.Trees.{node, none, more}
 use Rattle.p9_lang.specs.Modules.{Label, Typed, TypedRow}
 use Rattle.p9_cmean.specs.declared.Cause.{Cause}
 use Rattle.p9_cmean.specs.declared.Place.{Place}
-use Rattle.p9_cmean.specs.Cells.{Value, Word, Address, Missing, Object, State}
-use Rattle.p9_cmean.specs.Plays.{Call, Play, Done, Wrong, NoMeaning, Moved, Ask, bind, Flow, Normal, Broke, Continued, Returned, Went, then_go, after_switch, Loop, turn_of, tested_loop, no_step}
-use Rattle.p9_cmean.specs.PlayLaws.{Follows, LoopFollows, Lasts, Goes}
+use Rattle.p9_cmean.specs.Cells.{Value, Word, Address, Missing, State}
+use Rattle.p9_cmean.specs.Plays.{Call, Play, Done, bind, Flow, Normal, then_go, after_switch, Loop, turn_of, tested_loop, no_step}
+use Rattle.p9_cmean.specs.PlayLaws.{Follows, LoopFollows, Lasts}
 use Rattle.p9_cmean.specs.Access.{integer_in}
 use Rattle.p9_cmean.specs.Places.{used, or_wrong, or_no_meaning}
 use Rattle.p9_cmean.specs.Automatics.{Declared, with_objects, left}
@@ -18,8 +18,8 @@ use Rattle.p9_cmean.specs.Declarations.{declared_by, declared_in, declaration_of
 use Rattle.p9_cmean.specs.Expressions.{Surroundings, at, value}
 use Rattle.p9_cmean.specs.Statements as st
 use Rattle.p9_cmean.specs.Statements.{statement, statements, statements_from, for_loop}
-use Rattle.p9_cmean.proofs.Plays.{follows_refl, follows_less, follows_bind, follows_then, follows_if, follows_go, loops_follow, tested_loops_follow, lasts_less, lasts_bind, lasts_done, loops_last}
-use Rattle.p9_cmean.proofs.Going.{goes_refl, goes_trans, Keeps, keeps_from, keeps_bind, turns_keep}
+use Rattle.p9_cmean.proofs.Plays.{follows_refl, follows_bind, follows_then, follows_if, follows_go, loops_follow, tested_loops_follow, lasts_less, lasts_bind, loops_last}
+use Rattle.p9_cmean.proofs.Going.{goes_refl, Keeps, keeps_from, keeps_bind, turns_keep}
 use Rattle.p9_cmean.proofs.Throughout.{p_body}
 
 -- GOING ON

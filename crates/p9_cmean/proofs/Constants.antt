@@ -1,26 +1,24 @@
 -- The meaning of constant expressions.
-use Rattle.std.proofs.Common.{◌≡◌, ℕ, zero, suc, Bool, true, false, not, ◌&&◌, ◌||◌, if◌then◌else◌, List, [], ◌∷◌, Option, Some, None, Result, Ok, Err, refl, sym, ap, subst, ◌∙◌}
+use Rattle.std.proofs.Common.{◌≡◌, ℕ, Bool, true, false, not, if◌then◌else◌, List, Option, Some, None, Result, Ok, Err, refl, sym, ap, subst, ◌∙◌}
 use Rattle.std.specs.Prelude.{◌==◌, nat_le}
 use Rattle.p9_base.specs.Words.{word_negation, word_complement}
 use Rattle.p9_lang.specs.declared.tree.CBinary.{CBinary}
 use Rattle.p9_lang.specs.declared.tree.CBinary.TheVariants as operator
 use Rattle.p9_lang.specs.declared.tree.CUnary.TheVariants as unary
 use Rattle.p9_lang.specs.declared.tree.Kind.TheVariants as kind
-use Rattle.p9_lang.specs.Types.{TypeTree, Void, Char, UChar, Short, UShort, Int, UInt, Long, ULong, Pointer, Array, Function, Tagged, Tags, Meant, EnumValue}
-use Rattle.p9_lang.specs.Types as types
+use Rattle.p9_lang.specs.Types.{TypeTree, Void, Pointer, Array, Function, Tagged, Tags, Meant, EnumValue}
 use Rattle.p9_lang.specs.Trees.{node, none, more}
 use Rattle.p9_lang.specs.Layout.{Extent, layout, size_of, size_in, size_limit}
-use Rattle.p9_lang.specs.Modules.{Label, Typed, TypedRow}
+use Rattle.p9_lang.specs.Modules.{Typed, TypedRow}
 use Rattle.p9_lang.specs.Conversions.{is_integer, decayed}
-use Rattle.p9_lang.specs.Constants.{Constant, NotConstant, Undefined, Value, Null, WordFault, truth, word_operation, works_unsigned, narrowed, on_word, on_words, also, both_true, one_true, chosen, value_or_undefined, cast_constant, null_if, size_constant, size_constant_in, type_at, constant_of, enumeration_constant}
-use Rattle.p9_cmean.specs.declared.Cause.{Cause}
+use Rattle.p9_lang.specs.Constants.{Constant, NotConstant, Undefined, Value, Null, WordFault, truth, word_operation, works_unsigned, narrowed, on_word, also, value_or_undefined, cast_constant, null_if, size_constant, size_constant_in, type_at, constant_of, enumeration_constant}
 use Rattle.p9_cmean.specs.declared.Place.{Place}
 use Rattle.p9_cmean.specs.Cells as cells
 use Rattle.p9_cmean.specs.Cells.{Word, Object, State}
 use Rattle.p9_cmean.specs.Plays.{Play, Done, bind}
 use Rattle.p9_cmean.specs.Contents.{content_of}
-use Rattle.p9_cmean.specs.Operators.{operation, of_integers, word_or_cause, holds}
-use Rattle.p9_cmean.specs.Places.{done_at, or_no_meaning, used}
+use Rattle.p9_cmean.specs.Operators.{operation, of_integers, word_or_cause}
+use Rattle.p9_cmean.specs.Places.{done_at, or_no_meaning}
 use Rattle.p9_cmean.specs.Expressions as x
 use Rattle.p9_cmean.specs.Expressions.{Surroundings, at, operand_type, value}
 use Rattle.p9_cmean.specs.ConstantLaws.{HasIntegerType, ConstantsAreTyped, ConstantsKeepTheirValues}
@@ -232,23 +230,23 @@ module _ (around : Surroundings) where
   constants_are (node (kind.Binary operator.AndAnd) label (more l (more r none))) w s t h =
       let k : Constant = on_word (λ y. Value (truth (not (y == 0)))) (c_of r) in
       let m : FromWord (λ n. if n == 0 then Value 0 else k) (c_of l) w =
-        from_word (λ n. if n == 0 then Value 0 else k) (c_of l) w (from_also (c_of r) (on_word (λ n. if n == 0 then Value 0 else k) (c_of l)) w h)
+      from_word (λ n. if n == 0 then Value 0 else k) (c_of l) w (from_also (c_of r) (on_word (λ n. if n == 0 then Value 0 else k) (c_of l)) w h)
       in
       after l m.0 s _ (constants_are l m.0 s t.2.0 m.1)
       ∙ tested l m.0 (at around label) s _ t.2.0 m.1
       ∙ choose_and (m.0 == 0) k _ w s m.2 (λ e.
-        let q : FromWord (λ y. Value (truth (not (y == 0)))) (c_of r) w = from_word (λ y. Value (truth (not (y == 0)))) (c_of r) w e in
-        after r q.0 s _ (constants_are r q.0 s t.2.1.0 q.1) ∙ tested r q.0 (at around label) s _ t.2.1.0 q.1 ∙ word_done (truth (not (q.0 == 0))) w s q.2)
+      let q : FromWord (λ y. Value (truth (not (y == 0)))) (c_of r) w = from_word (λ y. Value (truth (not (y == 0)))) (c_of r) w e in
+      after r q.0 s _ (constants_are r q.0 s t.2.1.0 q.1) ∙ tested r q.0 (at around label) s _ t.2.1.0 q.1 ∙ word_done (truth (not (q.0 == 0))) w s q.2)
   constants_are (node (kind.Binary operator.OrOr) label (more l (more r none))) w s t h =
       let k : Constant = on_word (λ y. Value (truth (not (y == 0)))) (c_of r) in
       let m : FromWord (λ n. if n == 0 then k else Value 1) (c_of l) w =
-        from_word (λ n. if n == 0 then k else Value 1) (c_of l) w (from_also (c_of r) (on_word (λ n. if n == 0 then k else Value 1) (c_of l)) w h)
+      from_word (λ n. if n == 0 then k else Value 1) (c_of l) w (from_also (c_of r) (on_word (λ n. if n == 0 then k else Value 1) (c_of l)) w h)
       in
       after l m.0 s _ (constants_are l m.0 s t.2.0 m.1)
       ∙ tested l m.0 (at around label) s _ t.2.0 m.1
       ∙ choose_or (m.0 == 0) k _ w s m.2 (λ e.
-        let q : FromWord (λ y. Value (truth (not (y == 0)))) (c_of r) w = from_word (λ y. Value (truth (not (y == 0)))) (c_of r) w e in
-        after r q.0 s _ (constants_are r q.0 s t.2.1.0 q.1) ∙ tested r q.0 (at around label) s _ t.2.1.0 q.1 ∙ word_done (truth (not (q.0 == 0))) w s q.2)
+      let q : FromWord (λ y. Value (truth (not (y == 0)))) (c_of r) w = from_word (λ y. Value (truth (not (y == 0)))) (c_of r) w e in
+      after r q.0 s _ (constants_are r q.0 s t.2.1.0 q.1) ∙ tested r q.0 (at around label) s _ t.2.1.0 q.1 ∙ word_done (truth (not (q.0 == 0))) w s q.2)
   constants_are (node (kind.Binary op) label (more l (more r none))) w s t h =
       let f : ℕ → ℕ → Constant = λ m n. value_or_undefined (word_operation op (works_unsigned op (type_at l) (type_at r)) m n) in
       let a : FromWord (λ m. on_word (f m) (c_of r)) (c_of l) w = from_word (λ m. on_word (f m) (c_of r)) (c_of l) w (from_also (c_of r) (on_word (λ m. on_word (f m) (c_of r)) (c_of l)) w h) in
@@ -259,13 +257,13 @@ module _ (around : Surroundings) where
   constants_are (node kind.Choose label (more test (more first (more second none)))) w s t h =
       let f : ℕ → Constant = λ n. if n == 0 then c_of second else c_of first in
       let m : FromWord f (c_of test) w =
-        from_word f (c_of test) w (from_also (c_of second) (on_word f (c_of test)) w (from_also (c_of first) (also (c_of second) (on_word f (c_of test))) w h))
+      from_word f (c_of test) w (from_also (c_of second) (on_word f (c_of test)) w (from_also (c_of first) (also (c_of second) (on_word f (c_of test))) w h))
       in
       after test m.0 s _ (constants_are test m.0 s t.2.0 m.1)
       ∙ tested test m.0 (at around label) s _ t.2.0 m.1
       ∙ choose_one (m.0 == 0) (c_of first) (c_of second) _ _ w s m.2
-        (λ e. after first w s _ (constants_are first w s t.2.1.0 e) ∙ chosen_is label.type w s)
-        (λ e. after second w s _ (constants_are second w s t.2.1.1.0 e) ∙ chosen_is label.type w s)
+      (λ e. after first w s _ (constants_are first w s t.2.1.0 e) ∙ chosen_is label.type w s)
+      (λ e. after second w s _ (constants_are second w s t.2.1.1.0 e) ∙ chosen_is label.type w s)
   constants_are (node kind.Comma label (more l (more r none))) w s t h =
       let a : FromWord (λ m. on_word (λ n. Value n) (c_of r)) (c_of l) w = from_word (λ m. on_word (λ n. Value n) (c_of r)) (c_of l) w (from_also (c_of r) (on_word (λ m. on_word (λ n. Value n) (c_of r)) (c_of l)) w h) in
       let b : FromWord (λ n. Value n) (c_of r) w = from_word (λ n. Value n) (c_of r) w a.2 in

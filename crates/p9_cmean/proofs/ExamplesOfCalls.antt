@@ -1,5 +1,5 @@
 -- The runs are computed.
-use Rattle.std.proofs.Common.{◌≡◌, true, false, List, [], ◌∷◌, Some, refl}
+use Rattle.std.proofs.Common.{◌≡◌, [], Some, refl}
 use Rattle.std.specs.Prelude.{codes}
 use Rattle.p9_cmean.specs.Cells.{Global}
 use Rattle.p9_cmean.specs.CRun.{source_run}

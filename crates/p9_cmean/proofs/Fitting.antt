@@ -1,21 +1,21 @@
 -- The functions of modules fit: they do the same with more turns, only go on, and last.
-use Rattle.std.proofs.Common.{◌≤◌, ℕ, zero, suc, Bool, true, false, not, if◌then◌else◌, List, [], ◌∷◌, ◌++◌, length, take, drop, map, Option, Some, None, Result, Ok, Err, refl, sym}
+use Rattle.std.proofs.Common.{◌≤◌, ℕ, zero, suc, Bool, true, false, not, if◌then◌else◌, List, [], ◌∷◌, take, Result, Ok, Err, refl, sym}
 use Rattle.std.proofs.lemmas.List.{take-append-drop}
 use Rattle.std.specs.Prelude.{◌==◌}
 use Rattle.p9_base.specs.Words.{is_negative}
 use Rattle.p9_cmean.specs.declared.Cause.{Cause}
 use Rattle.p9_cmean.specs.declared.Place.{Place}
-use Rattle.p9_cmean.specs.Cells.{Byte, Value, Word, State}
-use Rattle.p9_cmean.specs.Plays.{Call, Play, Done, NoMeaning, Exit}
-use Rattle.p9_cmean.specs.PlayLaws.{Follows, Lasts, Goes}
+use Rattle.p9_cmean.specs.Cells.{Value, State}
+use Rattle.p9_cmean.specs.Plays.{Call, Play, Done}
+use Rattle.p9_cmean.specs.PlayLaws.{Follows, Lasts}
 use Rattle.p9_cmean.specs.RunLaws.{BodiesLast}
-use Rattle.p9_cmean.specs.Access.{integer_in, pointer_in, with_cells}
+use Rattle.p9_cmean.specs.Access.{integer_in, pointer_in}
 use Rattle.p9_cmean.specs.Places.{or_wrong}
 use Rattle.p9_cmean.specs.SystemCalls as system
 use Rattle.p9_cmean.specs.SystemCalls.{SystemCall, Exits, Read, Write}
 use Rattle.p9_cmean.specs.Union.{Union}
 use Rattle.p9_cmean.specs.CRun.{Callee, System, Defined, NoCallee, callee, callee_body, surroundings, functions_of}
-use Rattle.p9_cmean.proofs.Plays.{follows_refl, lasts_done}
+use Rattle.p9_cmean.proofs.Plays.{follows_refl}
 use Rattle.p9_cmean.proofs.Going.{goes_refl, Keeps, keeps_if}
 use Rattle.p9_cmean.proofs.Bodies.{keeps_body, lasts_body, body_follows}
 use Rattle.p9_cmean.proofs.Later.{Fit}

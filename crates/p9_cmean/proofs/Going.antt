@@ -1,5 +1,5 @@
 -- Outputs that begin with others, inputs that end with others, and plays that only go on.
-use Rattle.std.proofs.Common.{◌≡◌, ℕ, zero, suc, List, [], ◌++◌, Bool, true, false, if◌then◌else◌, refl, sym, ap, ◌∙◌, append_assoc, append-nil}
+use Rattle.std.proofs.Common.{ℕ, zero, suc, List, [], ◌++◌, Bool, true, false, if◌then◌else◌, refl, sym, ap, ◌∙◌, append_assoc, append-nil}
 use Rattle.p9_cmean.specs.Cells.{Value, State}
 use Rattle.p9_cmean.specs.Plays.{Play, Done, Wrong, NoMeaning, Exit, Cut, Turn, Ask, Moved, bind, Flow, Normal, Broke, Continued, Returned, Went, then_go, after_turn, after_switch, Loop, turn_of, tested_loop}
 use Rattle.p9_cmean.specs.PlayLaws.{Begins, Leaves, Goes}

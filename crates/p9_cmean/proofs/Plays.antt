@@ -1,7 +1,7 @@
 -- Plays one after the other, plays that do the same for some turns, and plays that last.
 use Rattle.std.proofs.Common.{◌≡◌, ◌≤◌, ℕ, zero, suc, Bool, true, false, if◌then◌else◌, refl, sym, ap, subst, arith}
 use Rattle.p9_cmean.specs.Cells.{State}
-use Rattle.p9_cmean.specs.Plays.{Play, Done, Wrong, NoMeaning, Exit, Cut, Turn, Ask, Moved, bind, Flow, Normal, Broke, Continued, Returned, Went, after_turn, after_switch, then_go, Loop, turn_of, tested_loop}
+use Rattle.p9_cmean.specs.Plays.{Play, Done, Wrong, NoMeaning, Exit, Cut, Turn, Ask, Moved, bind, Flow, Normal, Broke, Continued, Returned, Went, after_turn, then_go, Loop, turn_of}
 use Rattle.p9_cmean.specs.PlayLaws.{BindIsAssociative, Follows, LoopFollows, LoopsFollow, TestedLoopsFollow, Lasts, LoopLasts, LoopsLast, TestedLoopsLast}
 
 pub bind_assoc : {A B C : Type 0} (p : Play A) (k : A → State → Play B) (l : B → State → Play C) → bind (bind p k) l ≡ bind p (λ x s. bind (k x s) l)

@@ -1,7 +1,7 @@
 -- What is true of each step of an expression, a statement or a function's body: a property of plays
 -- that holds of states which go on, of undefined operations, of calls, and of plays one after the
 -- other, holds of all of them.
-use Rattle.std.proofs.Common.{◌≤◌, map, ℕ, zero, suc, Bool, true, false, not, if◌then◌else◌, List, [], ◌∷◌, Option, Some, None, Result, Ok, Err}
+use Rattle.std.proofs.Common.{map, ℕ, zero, suc, Bool, true, false, not, if◌then◌else◌, List, [], ◌∷◌, Option, Some, None, Result, Ok, Err}
 use Rattle.p9_base.specs.Words.{word_negation, word_complement}
 use Rattle.p9_lang.specs.declared.tree.CBinary.{CBinary}
 use Rattle.p9_lang.specs.declared.tree.CBinary.TheVariants as operator
@@ -18,10 +18,9 @@ use Rattle.p9_lang.specs.Constants.{truth, type_at}
 use Rattle.p9_cmean.specs.declared.Cause.{Cause}
 use Rattle.p9_cmean.specs.declared.Cause.TheVariants as cause
 use Rattle.p9_cmean.specs.declared.Place.{Place}
-use Rattle.p9_cmean.specs.Cells.{FunctionName, Value, Word, Address, Missing, Object, State}
-use Rattle.p9_cmean.specs.Cells as cells
-use Rattle.p9_cmean.specs.Plays.{Call, Play, Done, Wrong, NoMeaning, Exit, Moved, Ask, bind, Flow, Normal, Broke, Continued, Returned, Went, then_go, after_switch, Loop, turn_of, tested_loop, no_step}
-use Rattle.p9_cmean.specs.Automatics.{Declared, Living, with_objects, left}
+use Rattle.p9_cmean.specs.Cells.{Value, Word, Address, Missing, State}
+use Rattle.p9_cmean.specs.Plays.{Call, Play, Done, Wrong, NoMeaning, Moved, Ask, bind, Flow, Normal, Broke, Continued, Returned, Went, then_go, after_switch, Loop, turn_of, tested_loop, no_step}
+use Rattle.p9_cmean.specs.Automatics.{Declared, with_objects, left}
 use Rattle.p9_cmean.specs.Declarations.{Automatic, declared_by, declared_in, declaration_of, Definition}
 use Rattle.p9_cmean.specs.Statements as st
 use Rattle.p9_cmean.specs.Statements.{statement, statements, statements_from, for_loop}

@@ -1,6 +1,6 @@
 -- Automatics: the objects that a block makes when it is entered, and those of parameters, which a
 -- function makes of its arguments. They die when the block is left, or the function.
-use Rattle.std.specs.Prelude.{ℕ, suc, ◌+◌, ◌==◌, ◌++◌, if◌then◌else◌, true, List, [], ◌∷◌, map, length, replicate, slice_get, slice_set, Option, Some, None}
+use Rattle.std.specs.Prelude.{ℕ, suc, ◌==◌, ◌++◌, if◌then◌else◌, true, List, [], ◌∷◌, length, replicate, slice_set, Option, Some, None}
 use Rattle.p9_lang.specs.Types.{TypeTree, Tags}
 use Rattle.p9_lang.specs.Layout.{size_of}
 use Rattle.p9_cmean.specs.Cells.{Pointer, Into, Cell, Unset, Object, State}

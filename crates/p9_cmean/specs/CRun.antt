@@ -1,11 +1,10 @@
 -- The run of modules: their union's `main`, in a number of turns.
-use Rattle.std.specs.Prelude.{ℕ, Bool, false, List, [], ◌∷◌, Option, Some, None, codes, if◌then◌else◌}
+use Rattle.std.specs.Prelude.{ℕ, Bool, false, List, [], ◌∷◌, Option, Some, None, codes}
 use Rattle.p9_lang.specs.declared.module.Module.{Module}
-use Rattle.p9_lang.specs.Types.{TypeTree, Void, Tags, TypeRow, none, more}
+use Rattle.p9_lang.specs.Types.{TypeTree, Void, Tags}
 use Rattle.p9_lang.specs.Agreement.{agrees}
 use Rattle.p9_lang.specs.Modules.{Source, sources_of}
 use Rattle.p9_lang.specs.Scopes.{system_type}
-use Rattle.p9_cmean.specs.declared.Place.{Place}
 use Rattle.p9_cmean.specs.Cells.{FunctionName, Global, Local, Pointer, Into, Value, Word, Address, State}
 use Rattle.p9_cmean.specs.Plays.{Call, Play, NoMeaning}
 use Rattle.p9_cmean.specs.Turns.{Outcome, End, Functions, calls_to, outcome_of, copied_of}

@@ -1,8 +1,7 @@
 -- The declarations of a block and the parts of a function, as they stand in a module's tree.
-use Rattle.std.specs.Prelude.{ℕ, Bool, true, false, if◌then◌else◌, List, [], ◌∷◌, ◌++◌, Option, Some, None}
-use Rattle.p9_lang.specs.declared.tree.Kind.{Kind}
+use Rattle.std.specs.Prelude.{ℕ, if◌then◌else◌, List, [], ◌∷◌, ◌++◌, Option, Some, None}
 use Rattle.p9_lang.specs.declared.tree.Kind.TheVariants as kind
-use Rattle.p9_lang.specs.Types.{TypeTree, Meant, Nothing, Outer, Static, Auto, EnumValue, TypeName}
+use Rattle.p9_lang.specs.Types.{Meant, Nothing, Outer, Static, Auto, EnumValue, TypeName}
 use Rattle.p9_lang.specs.Trees.{node, none, more}
 use Rattle.p9_lang.specs.Modules.{Label, Typed, TypedRow}
 use Rattle.p9_lang.specs.Parts.{is_declarator}

@@ -13,7 +13,6 @@ use Rattle.p9_lang.specs.Modules.{Source}
 use Rattle.p9_lang.specs.Files.{module_of}
 use Rattle.p9_lang.specs.Symbols.{Symbol, symbols}
 use Rattle.p9_cmean.specs.declared.Cause.{Cause}
-use Rattle.p9_cmean.specs.declared.Place.{Place}
 use Rattle.p9_cmean.specs.Cells.{FunctionName}
 use Rattle.p9_cmean.specs.Turns.{Outcome, Ended, Out, Undefined, Deep, NoOutcome}
 use Rattle.p9_cmean.specs.CRun.{source_run}

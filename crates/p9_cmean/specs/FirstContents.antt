@@ -1,10 +1,10 @@
 -- What the objects of a program hold when it starts: the static objects of its modules, and behind
 -- them the three of the built-in module.
 use Rattle.std.specs.Prelude.{ℕ, suc, ◌+◌, ◌&&◌, nat_lt, if◌then◌else◌, Bool, List, [], ◌∷◌, ◌++◌, map, length, take, drop, replicate, Option, Some, None, Result, Ok, Err, codes}
-use Rattle.p9_lang.specs.Types.{TypeTree, Tags}
+use Rattle.p9_lang.specs.Types.{Tags}
 use Rattle.p9_lang.specs.Layout.{size_of}
 use Rattle.p9_lang.specs.Initialisers.{Base, OuterBase, StaticBase, Content, Word, AddressOf, Bytes, Write, BrokenItem}
-use Rattle.p9_lang.specs.Symbols.{Symbol, SymbolKind, DeclaredOnly, Used, Code, Data, Common}
+use Rattle.p9_lang.specs.Symbols.{SymbolKind, DeclaredOnly, Used, Code, Data, Common}
 use Rattle.p9_cmean.specs.Cells.{FunctionName, Global, Local, Pointer, Into, ToFunction, Cell, Unset, Byte, Part, Object}
 use Rattle.p9_cmean.specs.Access.{number_cells, pointer_cells}
 use Rattle.p9_cmean.specs.Automatics.{live_object}

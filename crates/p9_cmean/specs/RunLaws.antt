@@ -1,10 +1,9 @@
 -- Laws of the runs of modules, and of access.
-use Rattle.std.specs.Prelude.{◌≡◌, ◌≤◌, ℕ, suc, ◌+◌, ◌%◌, List, length, take, drop, Bool, true, Result, Ok}
+use Rattle.std.specs.Prelude.{◌≡◌, ◌≤◌, ℕ, suc, ◌+◌, ◌%◌, List, length, take, drop, true, Ok}
 use Rattle.p9_lang.specs.declared.module.Module.{Module}
-use Rattle.p9_lang.specs.Modules.{Source}
 use Rattle.p9_cmean.specs.Cells.{Pointer, Into, Cell, Object, State}
 use Rattle.p9_cmean.specs.Plays.{Call}
-use Rattle.p9_cmean.specs.Turns.{Functions, state_of}
+use Rattle.p9_cmean.specs.Turns.{state_of}
 use Rattle.p9_cmean.specs.PlayLaws.{Lasts, Begins, Leaves, GoesOn}
 use Rattle.p9_cmean.specs.Access.{accessed, object_at}
 use Rattle.p9_cmean.specs.Union.{Union}

@@ -1,16 +1,16 @@
 -- What statements and the bodies of functions do. A kind of node that has no clause here is no
 -- statement.
-use Rattle.std.specs.Prelude.{ℕ, zero, suc, ◌==◌, if◌then◌else◌, Bool, true, false, List, [], ◌∷◌, ◌++◌, length, map, option_map, Option, Some, None, Result, Ok, Err}
+use Rattle.std.specs.Prelude.{ℕ, zero, suc, ◌==◌, if◌then◌else◌, Bool, true, false, List, [], ◌∷◌, ◌++◌, map, option_map, Option, Some, None, Result, Ok, Err}
 use Rattle.p9_lang.specs.declared.tree.Kind.TheVariants as kind
 use Rattle.p9_lang.specs.Types.{TypeTree, Function, Tags, row_types}
 use Rattle.p9_lang.specs.Trees.{node, none, more}
 use Rattle.p9_lang.specs.Layout.{size_of, on_some}
-use Rattle.p9_lang.specs.Modules.{Label, Typed, TypedRow}
+use Rattle.p9_lang.specs.Modules.{Typed, TypedRow}
 use Rattle.p9_lang.specs.Constants.{Constant, NotConstant, Undefined, constant_of}
 use Rattle.p9_lang.specs.Constants as constants
 use Rattle.p9_cmean.specs.declared.Cause.{Cause}
 use Rattle.p9_cmean.specs.declared.Place.{Place}
-use Rattle.p9_cmean.specs.Cells.{Cell, Object, Value, Word, Address, Missing, State}
+use Rattle.p9_cmean.specs.Cells.{Cell, Object, Value, Address, Missing, State}
 use Rattle.p9_cmean.specs.Plays.{Call, Play, Done, NoMeaning, bind, Flow, Normal, Broke, Continued, Returned, Went, then_go, after_switch, Loop, turn_of, tested_loop, no_step}
 use Rattle.p9_cmean.specs.Access.{integer_in, value_cells}
 use Rattle.p9_cmean.specs.Places.{used, or_wrong, or_no_meaning}

@@ -7,7 +7,7 @@ use Rattle.p9_lang.specs.Names.{same_name}
 use Rattle.p9_lang.specs.Types.{TypeTree, Function, Tags, row_types}
 use Rattle.p9_lang.specs.Trees.{node, none, more}
 use Rattle.p9_lang.specs.Layout.{size_of, rounded}
-use Rattle.p9_lang.specs.Modules.{Label, Typed, TypedRow, Source}
+use Rattle.p9_lang.specs.Modules.{Typed, TypedRow, Source}
 use Rattle.p9_lang.specs.Symbols.{Symbol, SymbolKind, DeclaredOnly, Used, Code, Data, Common, symbols}
 use Rattle.p9_cmean.specs.Cells.{FunctionName, Global, Local}
 use Rattle.p9_cmean.specs.Access.{same_function}

@@ -9,21 +9,20 @@ use Rattle.p9_lang.specs.Symbols.{symbols}
 use Rattle.p9_cmean.specs.declared.Cause.{Cause}
 use Rattle.p9_cmean.specs.declared.Place.{Place}
 use Rattle.p9_cmean.specs.Cells.{FunctionName, Global, Local, Value, Word, State}
-use Rattle.p9_cmean.specs.Plays.{Call, Play, Done, NoMeaning, Exit}
-use Rattle.p9_cmean.specs.Turns.{Functions, calls_to}
+use Rattle.p9_cmean.specs.Plays.{Call, Play, Done}
 use Rattle.p9_cmean.specs.Access.{integer_in, pointer_in}
 use Rattle.p9_cmean.specs.Places.{or_wrong}
 use Rattle.p9_cmean.specs.SystemCalls as system
 use Rattle.p9_cmean.specs.SystemCalls.{SystemCall, Exits, Read, Write, system_call}
-use Rattle.p9_cmean.specs.Union.{Entry, FunctionEntry, Union, union_of, entries_of, entries_from, functions_in, found_function, is_function, base_need}
+use Rattle.p9_cmean.specs.Union.{FunctionEntry, Union, union_of, entries_of, entries_from, functions_in, found_function, is_function, base_need}
 use Rattle.p9_cmean.specs.CRun as c
 use Rattle.p9_cmean.specs.CRun.{source_run, main_call, first_state, return_text}
 use Rattle.p9_tree.specs.Meaning.{Function}
 use Rattle.p9_tree.specs.Modules.{TypedModule}
-use Rattle.p9_tree.specs.Same.{Alike, SameCall, Same, SameFunctions, SameOutcome}
+use Rattle.p9_tree.specs.Same.{Alike, SameCall, Same, SameFunctions}
 use Rattle.p9_tree.specs.TRun as t
 use Rattle.p9_tree.specs.TRun.{Coded, coded_row, coded_from, functions_at, found_coded, trun}
-use Rattle.p9_tree.specs.Means.{FunctionMeans, FunctionsMean, SourceMeans, AllMean, RunsMeanSame}
+use Rattle.p9_tree.specs.Means.{FunctionMeans, FunctionsMean, AllMean, RunsMeanSame}
 use Rattle.p9_tree.proofs.Same.{alike_refl, same_call_refl, same_calls_end_same, same_outcome}
 
 -- SYSTEM CALLS do the same wherever they are called

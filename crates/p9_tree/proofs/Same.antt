@@ -1,9 +1,9 @@
 -- Plays that mean the same, one after the other, in loops and in calls.
-use Rattle.std.proofs.Common.{◌≡◌, ◌≤◌, ℕ, zero, suc, ◌+◌, Bool, true, false, if◌then◌else◌, nat_lt, Option, Some, None, List, refl, sym, ap, subst, ◌∙◌}
-use Rattle.p9_cmean.specs.Cells.{FunctionName, Value, Word, Address, Missing, State}
-use Rattle.p9_cmean.specs.Plays.{Call, Play, Done, Wrong, NoMeaning, Exit, Cut, Turn, Ask, Moved, bind, Flow, Normal, Broke, Continued, Returned, Went, after_turn, then_go, Loop, turn_of, tested_loop}
-use Rattle.p9_cmean.specs.Turns.{Outcome, Ended, Out, Undefined, Deep, NoOutcome, End, Gave, Over, and_then, Calls, resolve, Functions, room, call_in, calls_to, outcome_of}
-use Rattle.p9_tree.specs.Same.{Alike, AlikeFlow, SameCall, Same, Equal, BindKeepsSame, SameLoop, LoopsKeepSame, TestedLoopsKeepSame, SameOutcome, SameOver, SameEnd, SameFunctions, SameCallsEndSame}
+use Rattle.std.proofs.Common.{◌≡◌, ℕ, zero, suc, ◌+◌, Bool, true, false, if◌then◌else◌, nat_lt, Some, None, List, refl, sym, ap, subst, ◌∙◌}
+use Rattle.p9_cmean.specs.Cells.{Value, Word, Address, Missing, State}
+use Rattle.p9_cmean.specs.Plays.{Call, Play, Done, Wrong, NoMeaning, Exit, Cut, Turn, Ask, Moved, bind, Flow, Normal, Broke, Continued, Returned, Went, after_turn, turn_of}
+use Rattle.p9_cmean.specs.Turns.{Ended, Out, Undefined, Deep, NoOutcome, End, Gave, Over, and_then, Calls, resolve, room, calls_to, outcome_of}
+use Rattle.p9_tree.specs.Same.{Alike, AlikeFlow, SameCall, Same, Equal, BindKeepsSame, LoopsKeepSame, TestedLoopsKeepSame, SameOutcome, SameEnd, SameCallsEndSame}
 
 pub alike_refl : (v : Value) → Alike v v
 alike_refl (Word n) = refl

@@ -1,6 +1,6 @@
 -- How much code trees may take: which have no effects, how many registers they want, and the words of
 -- code that a compiler is allowed for them.
-use Rattle.std.specs.Prelude.{ℕ, suc, ◌+◌, ◌*◌, max, ◌==◌, ◌&&◌, if◌then◌else◌, Bool, true, false, Option, Some, None, List, [], ◌∷◌}
+use Rattle.std.specs.Prelude.{ℕ, suc, ◌+◌, max, ◌==◌, ◌&&◌, if◌then◌else◌, Bool, true, false, Option, Some, None}
 use Rattle.p9_tree.specs.Trees.{Tree, Const, Addr, Auto, Load, Store, Update, Copy, Un, Bin, Conv, Choose, Both, Step, Seq, Call, Trees, none, more, Stmt, Nothing, Effect, Block, If, IfElse, While, DoWhile, For, Switch, Break, Continue, Return, Label, Goto, Stmts, end, thereafter, Arms, no_arms, Case, Default, Arm}
 
 -- WITHOUT EFFECTS: nothing is stored, stepped, copied or called

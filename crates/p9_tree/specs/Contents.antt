@@ -1,5 +1,5 @@
 -- What the initialisers of a typed module write into its objects before the program runs.
-use Rattle.std.specs.Prelude.{ℕ, ◌+◌, ◌==◌, not, if◌then◌else◌, Bool, true, false, List, [], ◌∷◌, length, replicate, slice_get, Option, Some, None, Result, Ok, Err}
+use Rattle.std.specs.Prelude.{ℕ, ◌==◌, not, if◌then◌else◌, Bool, true, false, List, [], ◌∷◌, replicate, slice_get, Option, Some, None, Result, Ok, Err}
 use Rattle.p9_base.specs.Words.{word_sum, word_difference, word_negation, word_complement}
 use Rattle.p9_lang.specs.Types.{TypeTree, Tags}
 use Rattle.p9_lang.specs.Layout.{size_of}

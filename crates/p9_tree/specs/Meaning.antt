@@ -1,6 +1,6 @@
 -- What typed trees, statements and functions mean, by the same plays as their sources. Typed trees
 -- know no places of the source.
-use Rattle.std.specs.Prelude.{ℕ, zero, suc, ◌==◌, not, if◌then◌else◌, Bool, true, false, List, [], ◌∷◌, ◌++◌, map, take, replicate, slice_get, unwrap_or, Option, Some, None, Result, Ok, Err}
+use Rattle.std.specs.Prelude.{ℕ, zero, suc, ◌==◌, if◌then◌else◌, Bool, true, false, List, [], ◌∷◌, ◌++◌, map, take, replicate, slice_get, unwrap_or, Option, Some, None, Result, Ok, Err}
 use Rattle.p9_lang.specs.Layout.{on_some}
 use Rattle.p9_lang.specs.Constants.{truth}
 use Rattle.p9_tree.specs.declared.tree.Width.{Width}
@@ -10,7 +10,7 @@ use Rattle.p9_tree.specs.Trees.{Tree, Const, Addr, Auto, Load, Store, Update, Co
 use Rattle.p9_tree.specs.Operations.{of_width, loaded_width, stored_width, of_two, of_one, test_of, called}
 use Rattle.p9_cmean.specs.declared.Cause.{Cause}
 use Rattle.p9_cmean.specs.declared.Place.{Place}
-use Rattle.p9_cmean.specs.Cells.{Pointer, Cell, Unset, Object, Value, Word, Address, Missing, State}
+use Rattle.p9_cmean.specs.Cells.{Pointer, Cell, Unset, Object, Value, Word, Address, State}
 use Rattle.p9_cmean.specs.Plays as plays
 use Rattle.p9_cmean.specs.Plays.{Play, Done, NoMeaning, Turn, Moved, Ask, bind, Flow, Normal, Broke, Continued, Returned, Went, then_go, turn_of, tested_loop, no_step}
 use Rattle.p9_cmean.specs.Access.{integer_in, read_whole, written_whole, value_cells}

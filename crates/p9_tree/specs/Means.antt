@@ -1,9 +1,9 @@
 -- When a typed module means what a module means: it has the same symbols, structures and first
 -- contents, and each of its functions means the same as its source, in every program that the module
 -- is part of; and its functions are small enough for the code that is promised of them.
-use Rattle.std.specs.Prelude.{◌≡◌, ◌≤◌, ℕ, suc, ◌+◌, ◌*◌, Bool, true, false, ◌&&◌, IsTrue, List, [], ◌∷◌, ◌++◌, map, flat_map, length, slice_get, Option, Some, None, Result, Ok, Err}
+use Rattle.std.specs.Prelude.{◌≡◌, ◌≤◌, ℕ, suc, ◌+◌, ◌*◌, Bool, true, false, ◌&&◌, IsTrue, List, [], ◌∷◌, ◌++◌, map, flat_map, length, slice_get, Some, Result, Ok, Err}
 use Rattle.p9_lang.specs.declared.module.Module.{Module}
-use Rattle.p9_lang.specs.Types.{TypeTree, Tags}
+use Rattle.p9_lang.specs.Types.{Tags}
 use Rattle.p9_lang.specs.Initialisers.{BrokenItem}
 use Rattle.p9_lang.specs.Initialisers as source
 use Rattle.p9_lang.specs.Modules.{Typed, Source, source_of}
@@ -18,7 +18,7 @@ use Rattle.p9_tree.specs.Modules.{TypedSymbol, Initialiser, TypedModule, module_
 use Rattle.p9_tree.specs.Same.{Alike, SameCall, Same, SameOutcome}
 use Rattle.p9_tree.specs.TRun.{environment, functions_at, need_of, trun}
 use Rattle.p9_tree.specs.Contents.{Write, writes_of, first_cells}
-use Rattle.p9_cmean.specs.Cells.{Cell, State}
+use Rattle.p9_cmean.specs.Cells.{State}
 use Rattle.p9_cmean.specs.Plays.{Call}
 use Rattle.p9_cmean.specs.Union.{Entry, FunctionEntry, Union, union_of, weighed_nodes}
 use Rattle.p9_cmean.specs.FirstContents as first

@@ -1,5 +1,5 @@
 -- Typed modules as plain data.
-use Rattle.std.specs.Prelude.{ℕ, Bool, List, [], ◌∷◌, map}
+use Rattle.std.specs.Prelude.{ℕ, Bool, List, map}
 use Rattle.p9_lang.specs.Types.{TypeTree, Tags, type_of, tags_of}
 use Rattle.p9_tree.specs.declared.module.TFunction.{TFunction}
 use Rattle.p9_tree.specs.declared.module.TEntry.{TEntry}

@@ -1,6 +1,6 @@
 -- What the operations of typed trees give of values, or why they are undefined. They know no types: a
 -- word of four bytes may be an integer or a pointer.
-use Rattle.std.specs.Prelude.{ℕ, zero, suc, ◌==◌, not, nat_lt, nat_le, if◌then◌else◌, Bool, true, false, List, [], ◌∷◌, Option, Some, None, Result, Ok, Err}
+use Rattle.std.specs.Prelude.{ℕ, ◌==◌, not, nat_lt, nat_le, if◌then◌else◌, Bool, true, false, List, Some, Result, Ok, Err}
 use Rattle.std.specs.List.{list_any}
 use Rattle.p9_base.specs.Numbers.{sign_extended}
 use Rattle.p9_base.specs.Words.{word_sum, word_difference, word_negation, word_complement, low8, low16}
@@ -16,7 +16,7 @@ use Rattle.p9_tree.specs.declared.tree.BinOp.TheVariants as bin
 use Rattle.p9_cmean.specs.declared.Cause.{Cause}
 use Rattle.p9_cmean.specs.declared.Cause.TheVariants as cause
 use Rattle.p9_cmean.specs.Cells.{FunctionName, Pointer, Into, ToFunction, Cell, Object, Value, Word, Address, Missing}
-use Rattle.p9_cmean.specs.Access.{and_go, is_unset, is_part, number_of, integer_from, whole_pointer, loaded, stored, usable, with_offset, pointer_in, not_null}
+use Rattle.p9_cmean.specs.Access.{and_go, is_unset, is_part, number_of, integer_from, whole_pointer, loaded, stored, with_offset, pointer_in, not_null}
 use Rattle.p9_cmean.specs.Operators.{word_or_cause, of_integer, of_pointers, within_one, compared, equality_of, inequality_of, pointer_holds}
 
 -- WIDTHS

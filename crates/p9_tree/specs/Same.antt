@@ -1,8 +1,8 @@
 -- Plays that mean the same, where the first is defined: they take the same turns, make the same calls
 -- and come to the same answers and states. Places of the source are all that may differ.
-use Rattle.std.specs.Prelude.{◌≡◌, ℕ, zero, suc, Bool, List, Option, Some, None}
-use Rattle.p9_cmean.specs.Cells.{FunctionName, Value, Word, Address, Missing, State}
-use Rattle.p9_cmean.specs.Plays.{Call, Play, Done, Wrong, NoMeaning, Exit, Cut, Turn, Ask, Moved, bind, Flow, Normal, Broke, Continued, Returned, Went, Loop, turn_of, tested_loop}
+use Rattle.std.specs.Prelude.{◌≡◌, ℕ, Option, Some}
+use Rattle.p9_cmean.specs.Cells.{FunctionName, Value, Missing, State}
+use Rattle.p9_cmean.specs.Plays.{Call, Play, Done, Wrong, NoMeaning, Exit, Cut, Turn, Ask, Moved, bind, Flow, Returned, Loop, turn_of, tested_loop}
 use Rattle.p9_cmean.specs.Turns.{Outcome, Ended, Out, Undefined, Deep, NoOutcome, End, Gave, Over, Functions, calls_to}
 
 -- values that are equal, or both missing

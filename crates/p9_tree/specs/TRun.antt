@@ -1,7 +1,6 @@
 -- Runs in which functions do what their typed trees mean. The objects and all else of the union are
 -- those of the sources.
-use Rattle.std.specs.Prelude.{ℕ, suc, ◌+◌, ◌*◌, ◌++◌, Bool, if◌then◌else◌, List, [], ◌∷◌, map, flat_map, sum, slice_get, Option, Some, None}
-use Rattle.p9_lang.specs.Types.{TypeTree}
+use Rattle.std.specs.Prelude.{ℕ, suc, ◌+◌, ◌*◌, ◌++◌, if◌then◌else◌, List, [], ◌∷◌, map, flat_map, sum, slice_get, Option, Some, None}
 use Rattle.p9_lang.specs.Conversions.{is_function}
 use Rattle.p9_lang.specs.Layout.{rounded}
 use Rattle.p9_lang.specs.Modules.{Source}

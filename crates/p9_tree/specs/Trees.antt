@@ -6,7 +6,6 @@ use Rattle.p9_tree.specs.declared.tree.BinOp.{BinOp}
 use Rattle.p9_tree.specs.declared.tree.TTree.{TTree, fold-TTree}
 use Rattle.p9_tree.specs.declared.tree.TTree.TheOpen.{TTree-F}
 use Rattle.p9_tree.specs.declared.tree.TStmt.{TStmt, fold-TStmt}
-use Rattle.p9_tree.specs.declared.tree.TArm.{TArm}
 use Rattle.p9_tree.specs.declared.tree.TArm.TheOpen.{TArm-F, TStmt-F}
 
 -- Expressions. Every width, conversion and pointer offset is explicit in them.
