@@ -29,10 +29,13 @@ pub record Scene (I O F : Type 0) : Type 1 where
 
 abbrev pub doing : {I O F : Type 0} → (I → TakeCall → I → Type 0) → (O → PutCall → O → Type 0) → (F → FileCall → F → Type 0) → Doing I O F
 doing takes puts stores = record { takes = takes; puts = puts; stores = stores }
+
 abbrev pub telling : {I O F : Type 0} → (I → Option (List ℕ)) → (O → Option (List ℕ)) → (F → Option Held) → Telling I O F
 telling left sofar held = record { left = left; sofar = sofar; held = held }
+
 abbrev pub counts : {I O F : Type 0} → (I → ℕ) → (O → ℕ) → (F → ℕ) → Counts I O F
 counts of_input of_out of_files = record { input_faults = of_input; out_faults = of_out; store_faults = of_files }
+
 abbrev pub objects : {I O F : Type 0} → I → O → F → Objects I O F
 objects input out files = record { input = input; out = out; files = files }
 
