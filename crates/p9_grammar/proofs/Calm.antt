@@ -1,14 +1,15 @@
 -- Tokens that none of a part's own nodes takes.
-use Rattle.std.proofs.Common.{◌≡◌, ℕ, suc, ◌≤◌, ◌<◌, nat_le, Bool, true, false, ◌||◌, ◌&&◌, ◌⊎◌, inl, inr, refl, sym, ap, ◌∙◌, arith, ⊎_elim}
+use Rattle.std.proofs.Common.{◌≡◌, ℕ, zero, suc, ◌+◌, ◌≤◌, ◌<◌, nat_le, Bool, true, false, ◌||◌, ◌&&◌, ◌⊎◌, inl, inr, not, List, [], ◌∷◌, ◌++◌, refl, sym, ap, subst, ◌∙◌, arith, ⊎_elim}
 use Rattle.std.proofs.lemmas.Bool.{le-leb, false≢true}
 use Rattle.std.proofs.lemmas.Bool.Decides.{leb_tells}
+use Rattle.p9_grammar.specs.declared.terminal.Keyword.TheVariants as key
 use Rattle.p9_grammar.specs.declared.terminal.Punctuator.{Punctuator}
 use Rattle.p9_grammar.specs.declared.terminal.Punctuator.TheVariants as mark
 use Rattle.p9_grammar.specs.declared.terminal.Terminal.{Terminal}
 use Rattle.p9_grammar.specs.declared.terminal.Terminal.TheVariants as t
 use Rattle.p9_grammar.specs.declared.head.Naming.{Naming}
-use Rattle.p9_grammar.specs.Trees.{Tree}
-use Rattle.p9_grammar.specs.Machine.{Infix, Binds, No, binding, Apart, join_at, join_if, join_expression, join_declarator, level_of}
+use Rattle.p9_grammar.specs.Trees.{Tree, node, Trees, none, more, count}
+use Rattle.p9_grammar.specs.Machine.{Infix, Binds, No, binding, Join, Joins, Posts, Lengthens, Apart, join_at, join_if, join_expression, join_declarator, level_of, direct_of}
 use Rattle.p9_grammar.proofs.Reading.{calm, calm_at, quiet}
 
 pub le_true : (m n : ℕ) → m ≤ n → nat_le m n ≡ true

@@ -1,15 +1,24 @@
 -- Declarators are read.
-use Rattle.std.proofs.Common.{◌≡◌, ℕ, zero, suc, ◌-◌, ◌≤◌, nat_le, Bool, true, false, ◌&&◌, ◌⊎◌, inl, inr, not, List, [], ◌∷◌, ◌++◌, Option, Some, None, refl, sym, ap, subst, ◌∙◌, arith, append_assoc, append-nil, map}
+use Rattle.std.proofs.Common.{◌≡◌, ℕ, zero, suc, ◌+◌, ◌-◌, ◌≤◌, ◌<◌, nat_le, Bool, true, false, ◌||◌, ◌&&◌, ◌⊎◌, inl, inr, not, List, [], ◌∷◌, ◌++◌, Option, Some, None, refl, sym, ap, subst, ◌∙◌, arith, ⊎_elim, append_assoc, append-nil, map}
 use Rattle.std.specs.Prelude.{⊤}
-use Rattle.std.proofs.lemmas.Bool.{false≢true, not-true}
+use Rattle.std.proofs.lemmas.Bool.{false≢true, and_parts, not-true}
+use Rattle.p9_lang.specs.declared.tree.CBinary.{CBinary}
+use Rattle.p9_lang.specs.declared.tree.CBinary.TheVariants as operator
+use Rattle.p9_lang.specs.declared.tree.CUnary.{CUnary}
+use Rattle.p9_lang.specs.declared.tree.CUnary.TheVariants as unary
+use Rattle.p9_lang.specs.declared.tree.EntryBy.{EntryBy}
+use Rattle.p9_lang.specs.declared.tree.EntryBy.TheVariants as by
 use Rattle.p9_lang.specs.declared.tree.SpecWord.{SpecWord}
 use Rattle.p9_lang.specs.declared.tree.SpecWord.TheVariants as word
 use Rattle.p9_lang.specs.declared.tree.Kind.{Kind}
 use Rattle.p9_lang.specs.declared.tree.Kind.TheVariants as kind
+use Rattle.p9_grammar.specs.declared.terminal.Keyword.{Keyword}
 use Rattle.p9_grammar.specs.declared.terminal.Keyword.TheVariants as key
+use Rattle.p9_grammar.specs.declared.terminal.Punctuator.{Punctuator}
 use Rattle.p9_grammar.specs.declared.terminal.Punctuator.TheVariants as mark
 use Rattle.p9_grammar.specs.declared.terminal.Terminal.{Terminal}
 use Rattle.p9_grammar.specs.declared.terminal.Terminal.TheVariants as t
+use Rattle.p9_grammar.specs.declared.head.Context.{Context}
 use Rattle.p9_grammar.specs.declared.head.Context.TheVariants as context
 use Rattle.p9_grammar.specs.declared.head.Naming.{Naming}
 use Rattle.p9_grammar.specs.declared.head.Naming.TheVariants as naming
@@ -18,19 +27,20 @@ use Rattle.p9_grammar.specs.declared.head.Class.TheVariants as class
 use Rattle.p9_grammar.specs.declared.head.Head.{Head}
 use Rattle.p9_grammar.specs.declared.head.Head.TheVariants as head
 use Rattle.p9_grammar.specs.Trees.{Tree, node, Trees, none, more, count, push}
-use Rattle.p9_grammar.specs.Symbols.{Symbol, Write, Part, Enter, Slot, Of, Last, Pointed, Direct, Grouped, Plain, Declares, part, sign, right_side, conditional, later, at_most_one, spec_symbols, word_symbols, spec_parts, declarator_of, qualifier, parameter_list}
-use Rattle.p9_grammar.specs.Scopes.{Scope, is_type, after, told, told_first, through, add, tells, nothing, Told, innermost, outer}
-use Rattle.p9_grammar.specs.Grammar.{Sort, sort, Accepts, Suits, Formed, Fills, slot_class, past, past_in, IsSpec, may_follow, pointed, grouped}
+use Rattle.p9_grammar.specs.Symbols.{Symbol, Write, Part, Enter, Slot, Of, Last, Pointed, Direct, Grouped, Role, Plain, Declares, Begins, part, sign, keyword, right_side, binds, binary_sign, unary_sign, assignment_sign, step_sign, dot_sign, expression, assignment, conditional, operand, later, listed, many, optional, at_most_one, branches, texts, spec_symbols, word_symbols, spec_parts, is_typedef, declarator, declarator_of, declarators, later_declarators, initialiser, qualifier, inner_declarator, parameters, parameter_list, behind, entry_place, named, in_braces, tag_key}
+use Rattle.p9_grammar.specs.Scopes.{Scope, Level, is_type, after, told, told_first, through, add, leave, tells, nothing, Told, innermost, outer}
+use Rattle.p9_grammar.specs.Grammar.{Sort, sort, Accepts, Suits, Asks, Formed, Fills, slot_class, naming_of, may_of, past, past_in, is_assignable, SpecFrom, IsSpec, may_follow, has_type, is_known, is_void_word, pointed, grouped}
 use Rattle.p9_grammar.specs.Machine.{Frame, Read, Stack, State, state, to, fresh, moved, made, leaf, start_of, step, run, begin, begin_by, begin_spec, begin_expression, begin_declarator, begin_statement, begin_switch_item, begin_initialiser, only_if, or_else, Begin, Pushes, Leaf, Under, Nowhere, Move, Shift, Ends, Opens, Over, Refused, After, To, Makes, Unwanted, Join, Joins, Posts, Lengthens, Apart, opening, inside, resolve, attach, attached, joining, join, join_at, join_if, join_expression, join_declarator, settle, going, feed, decide, choose, wanted, role, retold, enters, opens, Infix, Binds, No, binding, binary, assigns, level_of, direct_of, move, spec_move, begins_type, allows_storage, spec, shift_if, ends_spec, paren_or, brace_or, semicolon_or, bracket_or}
 use Rattle.p9_grammar.proofs.Spelling.{spell, spells}
-use Rattle.p9_grammar.proofs.Reading.{opened, read, Meets, quiet, Reads, Each, opens-up}
-use Rattle.p9_grammar.proofs.Calm.{le_true, quiet-apart, quiet-less}
-use Rattle.p9_grammar.proofs.First.{First, starts_expression, starts_declarator, starts_spec, first-expression, first-declarator, first-spec, word_token, first_of_word, first-along}
+use Rattle.p9_grammar.proofs.Reading.{opened, read, Meets, calm, calm_at, quiet, is_no_else, ends_param, ends_type, ends_constant, follows, Reads, Each, ReadsNode, opens-up}
+use Rattle.p9_grammar.proofs.Calm.{le_true, le_false, true_le, low, low-calm, low-apart, Edge, calm-low, quiet-apart, quiet-less}
+use Rattle.p9_grammar.proofs.First.{First, starts, starts_expression, starts_declarator, starts_statement, starts_switch_item, starts_initialiser, starts_entry, starts_spec, first-expression, first-declarator, first-spec, word_token, word_head, moves-word, first_of_word, first-along}
 use Rattle.p9_grammar.specs.Machine.{is_begun, only_if, begin_entry, begin_body, begin_constant, fed, else_move, stepped}
-use Rattle.p9_grammar.specs.Grammar.{Declarator}
-use Rattle.p9_grammar.proofs.Expressions.{append, append-push, append-none, reads-leaf, reads-push, reads-join, reads-apart, opens-first}
+use Rattle.p9_grammar.specs.Grammar.{Expression, Declarator, Braced, Entry, Param, TypeName, Member, Constant, Declaration, Function, Block, Statement, Label}
+use Rattle.p9_grammar.proofs.Expressions.{append, append-push, append-none, formed-start, formed-level, reads-leaf, reads-push, reads-join, reads-apart, opens-first, no-type, first-type, join-tight, calm-left}
 use Rattle.p9_grammar.specs.Grammar.{Hides, Leads}
 use Rattle.p9_grammar.specs.Machine.{only_void, first_param, params_start, params_next, stars_move, bare_star, or_close_paren, is_close_paren, begin_name, begin_group, begin_brackets}
+use Rattle.p9_grammar.proofs.Statements.{no-spec}
 
 abbrev pub ReadsDeclarator : Kind → Trees → Type 0
 ReadsDeclarator k parts =
@@ -333,11 +343,11 @@ abbrev is_void : SpecWord → Bool
 is_void word.Void = true
 is_void _ = false
 
-params-word : (at : ℕ) (inner : Bool) (w : SpecWord) → is_void w ≡ false → params_start at inner (word_token w) ≡ Opens (head.ParamsStart inner)
-params-word at inner word.Void h = absurd (false≢true (sym h))
-params-word at inner (word.Tag true x members) h = refl
-params-word at inner (word.Tag false x members) h = refl
-params-word at inner _ h = refl
+params-word : (inner : Bool) (w : SpecWord) → is_void w ≡ false → params_start inner (word_token w) ≡ Opens (head.ParamsStart inner)
+params-word inner word.Void h = absurd (false≢true (sym h))
+params-word inner (word.Tag true x members) h = refl
+params-word inner (word.Tag false x members) h = refl
+params-word inner _ h = refl
 
 lone-void : (ps : Trees) (k : ℕ) (token : Terminal) (ws : List SpecWord) → k ≡ count ps - spec_parts (word.Void ∷ ws) →
     (is_close_paren token ≡ false) ⊎ (only_void (node (kind.Param (spec (word.Void ∷ ws))) 0 ps) ≡ false) → ws ≡ [] → k ≡ 0 → is_close_paren token ≡ false
@@ -354,11 +364,11 @@ lone-void ps k token (w ∷ ws) e (inr h) a b = absurd (not_nil w ws a)
         is_cons (w ∷ ws) = true
 
 void-opens : (inner : Bool) (from : ℕ) (acc : Trees) (tl : Told) (s : Stack) (scope : Scope) (at : ℕ) (ts : List Terminal) → First no_close ts →
-    run (Some (state (record { head = head.ParamsVoid inner at; from = from; parts = acc; told = tl } ∷ s) scope (suc at) None)) ts
+    run (Some (state (record { head = head.ParamsVoid inner; from = from; parts = acc; told = tl } ∷ s) scope (suc at) None)) ts
     ≡ run (Some (state (fresh (head.Spec context.Param (word.Void ∷ [])) at ∷ record { head = head.ParamsStart inner; from = from; parts = acc; told = tl } ∷ s) scope (suc at) None)) ts
 unfolding step
 void-opens inner from acc tl s scope at ts p =
-    let o : Frame = record { head = head.ParamsVoid inner at; from = from; parts = acc; told = tl } in
+    let o : Frame = record { head = head.ParamsVoid inner; from = from; parts = acc; told = tl } in
     let q : Stack = fresh (head.Spec context.Param (word.Void ∷ [])) at ∷ record { head = head.ParamsStart inner; from = from; parts = acc; told = tl } ∷ s in
     ap (run (Some (state (o ∷ s) scope (suc at) None))) p.2
     ∙ ap (λ b. run (fed (state (choose b (o ∷ s) q) scope (suc at) None) p.0) p.1) (not-true (is_close_paren p.0) p.3)
@@ -376,7 +386,7 @@ first-param-opens_in w ws k ps c inner from acc tl s scope at token rest h g =
     let p = first_of_word w (spec_symbols ws ++ param_end k) ps (token ∷ rest) in
     let e = ap (λ x. spells x ps (token ∷ rest)) (append_assoc (word_symbols w) (spec_symbols ws) (param_end k)) ∙ p.1 in
     ap (run (Some (state (o ∷ s) scope at None))) e
-    ∙ ap (λ y. run (resolve o s scope at (word_token w) (λ x sd. settle s x sd at (word_token w)) y) p.0) (params-word at inner w refl)
+    ∙ ap (λ y. run (resolve o s scope at (word_token w) (λ x sd. settle s x sd at (word_token w)) y) p.0) (params-word inner w refl)
     ∙ ap (opened o s scope at) (sym e)
 
 first-param-opens : (n : Tree) (inner : Bool) (from : ℕ) (acc : Trees) (tl : Told) (s : Stack) (scope : Scope) (at : ℕ) (token : Terminal) (rest : List Terminal) →
@@ -410,7 +420,7 @@ recast c d e (Part slot r ∷ symbols) scope at none h = absurd h
 recast c d e (Part slot r ∷ symbols) scope at (more n ns) h =
     (subst (λ x. Formed x scope at n) (e slot) h.0, recast c d e symbols (add r (told n scope) (after n scope)) (past n at) ns h.1)
 
-only-param : (n : Tree) (scope : Scope) (at : ℕ) → Formed class.OnlyParam scope at n → Formed class.Param scope at n × (only_void n ≡ false)
+pub only-param : (n : Tree) (scope : Scope) (at : ℕ) → Formed class.OnlyParam scope at n → Formed class.Param scope at n × (only_void n ≡ false)
 only-param (node (kind.Param sp) p none) scope at f =
     ((f.0, tt, tt, f.3, recast class.OnlyParam class.Param same-slot (right_side (kind.Param sp) 0) scope at none f.4), f.2)
   where

@@ -1,12 +1,14 @@
 -- Runs of the machine over files that are C, and over files that are not.
-use Rattle.std.proofs.Common.{◌≡◌, Bool, true, false, [], ◌∷◌, Option, Some, None, refl}
+use Rattle.std.proofs.Common.{◌≡◌, ℕ, Bool, true, false, List, [], ◌∷◌, Option, Some, None, refl}
 use Rattle.std.specs.Prelude.{codes}
 use Rattle.p9_grammar.specs.declared.terminal.Keyword.TheVariants as key
 use Rattle.p9_grammar.specs.declared.terminal.Punctuator.TheVariants as mark
+use Rattle.p9_grammar.specs.declared.terminal.Terminal.{Terminal}
 use Rattle.p9_grammar.specs.declared.terminal.Terminal.TheVariants as t
 use Rattle.p9_grammar.specs.declared.head.Head.{Head}
 use Rattle.p9_grammar.specs.declared.head.Head.TheVariants as head
 use Rattle.p9_grammar.specs.Machine.{State, Stack, step, run, file_start}
+use Rattle.p9_grammar.specs.Grammar.{tokens}
 
 abbrev is_file : Head → Bool
 is_file head.FileOver = true

@@ -1,32 +1,40 @@
 -- Expressions are read.
-use Rattle.std.proofs.Common.{◌≡◌, ℕ, suc, ◌≤◌, nat_le, Bool, true, false, ◌||◌, ◌&&◌, inl, inr, not, List, [], ◌∷◌, ◌++◌, Option, Some, None, refl, sym, ap, ◌∙◌, arith, append_assoc, append-nil}
-use Rattle.std.proofs.lemmas.Bool.{false≢true}
+use Rattle.std.proofs.Common.{◌≡◌, ℕ, zero, suc, ◌+◌, ◌-◌, ◌≤◌, ◌<◌, nat_le, Bool, true, false, ◌||◌, ◌&&◌, ◌⊎◌, inl, inr, not, List, [], ◌∷◌, ◌++◌, Option, Some, None, refl, sym, ap, subst, ◌∙◌, arith, ⊎_elim, append_assoc, append-nil, map}
+use Rattle.std.specs.Prelude.{⊤}
+use Rattle.std.proofs.lemmas.Bool.{false≢true, and_parts, not-true}
 use Rattle.p9_lang.specs.declared.tree.CBinary.{CBinary}
 use Rattle.p9_lang.specs.declared.tree.CBinary.TheVariants as operator
 use Rattle.p9_lang.specs.declared.tree.CUnary.{CUnary}
 use Rattle.p9_lang.specs.declared.tree.CUnary.TheVariants as unary
+use Rattle.p9_lang.specs.declared.tree.EntryBy.{EntryBy}
+use Rattle.p9_lang.specs.declared.tree.EntryBy.TheVariants as by
+use Rattle.p9_lang.specs.declared.tree.SpecWord.{SpecWord}
 use Rattle.p9_lang.specs.declared.tree.SpecWord.TheVariants as word
 use Rattle.p9_lang.specs.declared.tree.Kind.{Kind}
 use Rattle.p9_lang.specs.declared.tree.Kind.TheVariants as kind
+use Rattle.p9_grammar.specs.declared.terminal.Keyword.{Keyword}
 use Rattle.p9_grammar.specs.declared.terminal.Keyword.TheVariants as key
 use Rattle.p9_grammar.specs.declared.terminal.Punctuator.{Punctuator}
 use Rattle.p9_grammar.specs.declared.terminal.Punctuator.TheVariants as mark
 use Rattle.p9_grammar.specs.declared.terminal.Terminal.{Terminal}
 use Rattle.p9_grammar.specs.declared.terminal.Terminal.TheVariants as t
+use Rattle.p9_grammar.specs.declared.head.Context.{Context}
 use Rattle.p9_grammar.specs.declared.head.Context.TheVariants as context
+use Rattle.p9_grammar.specs.declared.head.Naming.{Naming}
+use Rattle.p9_grammar.specs.declared.head.Naming.TheVariants as naming
 use Rattle.p9_grammar.specs.declared.head.Class.{Class}
 use Rattle.p9_grammar.specs.declared.head.Class.TheVariants as class
 use Rattle.p9_grammar.specs.declared.head.Head.{Head}
 use Rattle.p9_grammar.specs.declared.head.Head.TheVariants as head
 use Rattle.p9_grammar.specs.Trees.{Tree, node, Trees, none, more, count, push}
-use Rattle.p9_grammar.specs.Symbols.{part, sign, right_side, binds, binary_sign, unary_sign, assignment_sign, step_sign, dot_sign, expression, assignment, conditional, operand, later, texts}
-use Rattle.p9_grammar.specs.Scopes.{Scope, is_type, after, told, through, add, nothing, Told}
+use Rattle.p9_grammar.specs.Symbols.{Symbol, Write, Part, Enter, Slot, Of, Last, Pointed, Direct, Grouped, Role, Plain, Declares, Begins, part, sign, keyword, right_side, binds, binary_sign, unary_sign, assignment_sign, step_sign, dot_sign, expression, assignment, conditional, operand, later, listed, many, optional, at_most_one, branches, texts, spec_symbols, word_symbols, spec_parts, is_typedef, declarator, declarator_of, declarators, later_declarators, initialiser, qualifier, inner_declarator, parameters, parameter_list, behind, entry_place, named, in_braces, tag_key}
+use Rattle.p9_grammar.specs.Scopes.{Scope, Level, is_type, after, told, told_first, through, add, leave, tells, nothing, Told, innermost, outer}
 use Rattle.p9_grammar.specs.Grammar.{Sort, sort, Accepts, Suits, Asks, Formed, Fills, slot_class, naming_of, may_of, past, past_in, is_assignable, SpecFrom, IsSpec, may_follow, has_type, is_known, is_void_word, pointed, grouped}
 use Rattle.p9_grammar.specs.Machine.{Frame, Read, Stack, State, state, to, fresh, moved, made, leaf, start_of, step, run, begin, begin_by, begin_spec, begin_expression, begin_declarator, begin_statement, begin_switch_item, begin_initialiser, only_if, or_else, Begin, Pushes, Leaf, Under, Nowhere, Move, Shift, Ends, Opens, Over, Refused, After, To, Makes, Unwanted, Join, Joins, Posts, Lengthens, Apart, opening, inside, resolve, attach, attached, joining, join, join_at, join_if, join_expression, join_declarator, settle, going, feed, decide, choose, wanted, role, retold, enters, opens, Infix, Binds, No, binding, binary, assigns, level_of, direct_of, move, spec_move, begins_type, allows_storage, spec, shift_if, ends_spec, paren_or, brace_or, semicolon_or, bracket_or}
 use Rattle.p9_grammar.proofs.Spelling.{spell, spells}
-use Rattle.p9_grammar.proofs.Reading.{opened, read, Meets, calm, calm_at, Reads, Each, opens-up}
-use Rattle.p9_grammar.proofs.Calm.{le_true, low, low-calm, low-apart, calm-low}
-use Rattle.p9_grammar.proofs.First.{First, starts_expression, starts_spec, first-expression, first-spec}
+use Rattle.p9_grammar.proofs.Reading.{opened, read, Meets, calm, calm_at, quiet, is_no_else, ends_param, ends_type, ends_constant, follows, Reads, Each, ReadsNode, opens-up}
+use Rattle.p9_grammar.proofs.Calm.{le_true, le_false, true_le, low, low-calm, low-apart, Edge, calm-low, quiet-apart, quiet-less}
+use Rattle.p9_grammar.proofs.First.{First, starts, starts_expression, starts_declarator, starts_statement, starts_switch_item, starts_initialiser, starts_entry, starts_spec, first-expression, first-declarator, first-spec, word_token, word_head, moves-word, first_of_word, first-along}
 
 -- Lists of trees
 
@@ -405,7 +413,7 @@ reads-post minus (more n (more o ns)) z l f s scope at token rest a g h m q = ab
 abbrev call_on : ℕ → Told → Frame → Stack → Trees → Scope → ℕ → List Terminal → Option State
 call_on from told f s acc scope at [] = None
 call_on from told f s acc scope at (token ∷ ts) =
-    run (resolve (record { head = head.CallNext; from = from; parts = acc; told = told }) (f ∷ s) scope at token (λ m sc. settle (f ∷ s) m sc at token) (move scope at head.CallNext token)) ts
+    run (resolve (record { head = head.CallNext; from = from; parts = acc; told = told }) (f ∷ s) scope at token (λ m sc. settle (f ∷ s) m sc at token) (move scope head.CallNext token)) ts
 
 arguments : (ns : Trees) → Each Reads ns → (c : Class) (from : ℕ) (told : Told) (f : Frame) (s : Stack) (acc : Trees) (scope : Scope) (at : ℕ) (token : Terminal) (rest : List Terminal) →
     Fills c (later (count ns) (part assignment) ++ (sign mark.CloseParen ∷ [])) scope at ns →
@@ -580,7 +588,7 @@ mutual
   sizeof-opens_in kind.Parens (more n ns) l from s scope at start rest w a g h =
       let ts : List Terminal = spells (sign mark.CloseParen ∷ []) ns rest in
       let p = first-expression n 1 scope (suc start) ts h.0 in
-      opens-first (starts_expression scope) (fresh (head.SizeofOpen at) from) s (fresh head.Group at) (fresh head.SizeofOf from ∷ s) scope scope (suc at) (spell n ts) p
+      opens-first (starts_expression scope) (fresh head.SizeofOpen from) s (fresh head.Group at) (fresh head.SizeofOf from ∷ s) scope scope (suc at) (spell n ts) p
       (λ u v. ap (λ b. Rattle.p9_grammar.specs.Machine.fed (state (choose b (fresh head.SizeofType from ∷ s) (fresh head.Group at ∷ fresh head.SizeofOf from ∷ s)) scope (suc at) None) u) (no-type scope u v))
       ∙ sym (group-opens 15 (fresh head.SizeofOf from ∷ s) scope (suc at) at (spell n ts) p)
   sizeof-opens_in (kind.Name x) parts l from s scope at start rest w a g h = refl
@@ -611,7 +619,7 @@ reads-sizeof_type (more n none) z l f s scope at token rest a g h m q =
     reads-push f s scope at (t.Key key.Sizeof) head.SizeofStart (t.Mark mark.OpenParen ∷ spell n ts)
     (starts-pushes scope (wanted f.head) l (t.Key key.Sizeof) head.SizeofStart m (sizeof-begins scope 1 (omega arith))
     (sizeof-begins scope (wanted_level (wanted f.head)) (omega (arith, a, level-below (wanted f.head) l m))))
-    ∙ opens-first (starts_spec context.Type scope) (fresh (head.SizeofOpen (suc at)) at) (f ∷ s) (fresh head.SizeofType at) (f ∷ s) scope scope (suc (suc at)) (spell n ts)
+    ∙ opens-first (starts_spec context.Type scope) (fresh head.SizeofOpen at) (f ∷ s) (fresh head.SizeofType at) (f ∷ s) scope scope (suc (suc at)) (spell n ts)
     (first-type n scope (suc (suc at)) ts h.0)
     (λ u v. ap (λ b. Rattle.p9_grammar.specs.Machine.fed (state (choose b (fresh head.SizeofType at ∷ f ∷ s) (fresh head.Group (suc at) ∷ fresh head.SizeofOf at ∷ f ∷ s)) scope (suc (suc at)) None) u) v)
     ∙ z.0 class.Type (fresh head.SizeofType at) (f ∷ s) scope (suc (suc at)) (t.Mark mark.CloseParen) (token ∷ rest) h.0 tt refl

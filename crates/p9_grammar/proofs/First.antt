@@ -1,12 +1,20 @@
 -- The first token of a part.
-use Rattle.std.proofs.Common.{◌≡◌, ℕ, Bool, true, false, ◌||◌, ◌&&◌, not, List, [], ◌∷◌, ◌++◌, refl, ap, ◌∙◌, arith, append_assoc}
-use Rattle.std.proofs.lemmas.Bool.{false≢true}
+use Rattle.std.proofs.Common.{◌≡◌, ℕ, zero, suc, ◌+◌, ◌-◌, ◌≤◌, ◌<◌, nat_le, Bool, true, false, ◌||◌, ◌&&◌, ◌⊎◌, inl, inr, not, List, [], ◌∷◌, ◌++◌, Option, Some, None, refl, sym, ap, subst, ◌∙◌, arith, ⊎_elim, append_assoc, append-nil, map}
+use Rattle.std.specs.Prelude.{⊤}
+use Rattle.std.proofs.lemmas.Bool.{false≢true, and_parts, not-true}
+use Rattle.p9_lang.specs.declared.tree.CBinary.{CBinary}
+use Rattle.p9_lang.specs.declared.tree.CBinary.TheVariants as operator
+use Rattle.p9_lang.specs.declared.tree.CUnary.{CUnary}
 use Rattle.p9_lang.specs.declared.tree.CUnary.TheVariants as unary
+use Rattle.p9_lang.specs.declared.tree.EntryBy.{EntryBy}
+use Rattle.p9_lang.specs.declared.tree.EntryBy.TheVariants as by
 use Rattle.p9_lang.specs.declared.tree.SpecWord.{SpecWord}
 use Rattle.p9_lang.specs.declared.tree.SpecWord.TheVariants as word
 use Rattle.p9_lang.specs.declared.tree.Kind.{Kind}
 use Rattle.p9_lang.specs.declared.tree.Kind.TheVariants as kind
+use Rattle.p9_grammar.specs.declared.terminal.Keyword.{Keyword}
 use Rattle.p9_grammar.specs.declared.terminal.Keyword.TheVariants as key
+use Rattle.p9_grammar.specs.declared.terminal.Punctuator.{Punctuator}
 use Rattle.p9_grammar.specs.declared.terminal.Punctuator.TheVariants as mark
 use Rattle.p9_grammar.specs.declared.terminal.Terminal.{Terminal}
 use Rattle.p9_grammar.specs.declared.terminal.Terminal.TheVariants as t
@@ -20,8 +28,8 @@ use Rattle.p9_grammar.specs.declared.head.Head.{Head}
 use Rattle.p9_grammar.specs.declared.head.Head.TheVariants as head
 use Rattle.p9_grammar.specs.Trees.{Tree, node, Trees, none, more, count}
 use Rattle.p9_grammar.specs.Symbols.{Symbol, Write, Part, Enter, right_side, binds, spec_symbols, branches}
-use Rattle.p9_grammar.specs.Scopes.{Scope}
-use Rattle.p9_grammar.specs.Grammar.{sort, Accepts, Suits, Asks, Formed, Fills, IsSpec, may_follow, is_known}
+use Rattle.p9_grammar.specs.Scopes.{Scope, is_type}
+use Rattle.p9_grammar.specs.Grammar.{Sort, sort, Accepts, Suits, Asks, Formed, Fills, SpecFrom, IsSpec, may_follow, has_type, is_known, Hides, Leads}
 use Rattle.p9_grammar.specs.Machine.{Move, Shift, Refused, Begin, begin, begin_by, begin_spec, begin_expression, begin_declarator, begin_statement, begin_switch_item, is_begun, only_if, spec_move, shift_if, allows_storage}
 use Rattle.p9_grammar.proofs.Spelling.{spell, spells}
 

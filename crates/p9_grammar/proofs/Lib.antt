@@ -12,3 +12,10 @@ pub mod Initialisers
 pub mod Complete
 pub mod Nodes
 pub mod Unique
+pub mod Sofar
+pub mod Along
+pub mod Moves
+pub mod Attach
+pub mod Begins
+pub mod Tells
+pub mod Sound

@@ -1,6 +1,7 @@
 -- The trees of nodes.
-use Rattle.std.proofs.Common.{◌≡◌, List, [], ◌∷◌, ◌++◌, map, refl, ap, sym, ◌∙◌}
-use Rattle.p9_lang.specs.declared.tree.Node.{Node, out-Node, roll-Node, fold-roll-Node, fold_out-Node, ind-Node}
+use Rattle.std.proofs.Common.{◌≡◌, ℕ, List, [], ◌∷◌, ◌++◌, map, refl, ap, sym, ◌∙◌}
+use Rattle.p9_lang.specs.declared.tree.Kind.{Kind}
+use Rattle.p9_lang.specs.declared.tree.Node.{Node, out-Node, roll-Node, fold-Node, fold-roll-Node, fold_out-Node, ind-Node, map-Node}
 use Rattle.p9_lang.specs.declared.tree.Node.TheOpen.{Node-F}
 use Rattle.p9_grammar.specs.Trees.{Tree, node, Trees, none, more, push, trees, tree_step, tree_of, trees_of}
 use Rattle.p9_grammar.specs.Machine.{start_of}

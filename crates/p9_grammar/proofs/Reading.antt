@@ -1,20 +1,25 @@
 -- What it is that the reader reads a tree.
-use Rattle.std.proofs.Common.{◌≡◌, ℕ, suc, ◌≤◌, nat_le, Bool, true, false, ◌||◌, List, [], ◌∷◌, Option, Some, None, refl, ap}
+use Rattle.std.proofs.Common.{◌≡◌, ℕ, zero, suc, ◌+◌, ◌≤◌, nat_le, Bool, true, false, ◌||◌, not, List, [], ◌∷◌, ◌++◌, Option, Some, None, refl, sym, ap, subst, ◌∙◌, arith}
 use Rattle.std.specs.Prelude.{⊤}
 use Rattle.p9_lang.specs.declared.tree.Kind.{Kind}
+use Rattle.p9_lang.specs.declared.tree.Kind.TheVariants as kind
 use Rattle.p9_grammar.specs.declared.terminal.Keyword.TheVariants as key
+use Rattle.p9_grammar.specs.declared.terminal.Punctuator.{Punctuator}
 use Rattle.p9_grammar.specs.declared.terminal.Punctuator.TheVariants as mark
 use Rattle.p9_grammar.specs.declared.terminal.Terminal.{Terminal}
 use Rattle.p9_grammar.specs.declared.terminal.Terminal.TheVariants as t
+use Rattle.p9_grammar.specs.declared.head.Context.TheVariants as context
 use Rattle.p9_grammar.specs.declared.head.Naming.{Naming}
 use Rattle.p9_grammar.specs.declared.head.Naming.TheVariants as naming
 use Rattle.p9_grammar.specs.declared.head.Class.{Class}
 use Rattle.p9_grammar.specs.declared.head.Class.TheVariants as class
+use Rattle.p9_grammar.specs.declared.head.Head.{Head}
+use Rattle.p9_grammar.specs.declared.head.Head.TheVariants as head
 use Rattle.p9_grammar.specs.Trees.{Tree, node, Trees, none, more, count}
 use Rattle.p9_grammar.specs.Symbols.{right_side}
 use Rattle.p9_grammar.specs.Scopes.{Scope, after, told}
-use Rattle.p9_grammar.specs.Grammar.{sort, Accepts, Suits, Asks, Formed, Fills, past}
-use Rattle.p9_grammar.specs.Machine.{Frame, Read, Stack, State, state, begin, opening, going, settle, run, step, wanted, Infix, Binds, No, binding}
+use Rattle.p9_grammar.specs.Grammar.{Sort, sort, Accepts, Suits, Asks, Formed, Fills, past}
+use Rattle.p9_grammar.specs.Machine.{Frame, Read, Stack, State, state, begin, begin_spec, begin_expression, begin_declarator, is_begun, opening, going, settle, run, step, wanted, Infix, Binds, No, binding}
 use Rattle.p9_grammar.proofs.Spelling.{spell}
 
 -- The next token begins a part of the innermost node.

@@ -1,5 +1,5 @@
 -- A reader that takes one token after the other, with a stack of the nodes that are open.
-use Rattle.std.specs.Prelude.{ℕ, zero, suc, nat_le, Bool, true, false, ◌&&◌, not, List, [], ◌∷◌, ◌++◌, Option, Some, None}
+use Rattle.std.specs.Prelude.{◌≡◌, ℕ, zero, suc, pred, ◌+◌, nat_le, Bool, true, false, ◌&&◌, not, List, [], ◌∷◌, ◌++◌, Option, Some, None, if◌then◌else◌}
 use Rattle.p9_lang.specs.declared.tree.CBinary.{CBinary}
 use Rattle.p9_lang.specs.declared.tree.CBinary.TheVariants as operator
 use Rattle.p9_lang.specs.declared.tree.CUnary.TheVariants as unary
@@ -26,7 +26,7 @@ use Rattle.p9_grammar.specs.declared.head.Head.{Head}
 use Rattle.p9_grammar.specs.declared.head.Head.TheVariants as head
 use Rattle.p9_grammar.specs.Trees.{Tree, node, Trees, none, more, push}
 use Rattle.p9_grammar.specs.Symbols.{binds, expression, assignment, conditional, operand, is_typedef, Role, Plain, Declares}
-use Rattle.p9_grammar.specs.Scopes.{Scope, is_type, innermost, Told, nothing, tells, leave, add}
+use Rattle.p9_grammar.specs.Scopes.{Scope, is_type, outer, innermost, Told, nothing, tells, leave, add}
 use Rattle.p9_grammar.specs.Grammar.{Sort, Expression, Declarator, sort, may_follow, has_type, is_void_word, pointed, grouped}
 
 -- What is open: how far the reader has come in a node, the place of its first token, the parts read so
@@ -413,6 +413,7 @@ role _ = Plain
 -- what an open node is told by a part of it
 abbrev pub retold : Head → (before now : Told) → Told
 retold (head.Declarators c words inits) before now = now
+retold (head.ParamOf words) before now = now
 retold (head.Stars n volatiles) before now = now
 retold (head.DeclGroup n) before now = now
 retold _ before now = before
@@ -527,10 +528,10 @@ stars_move n volatiles (t.Mark mark.Comma) = bare_star n volatiles
 stars_move n volatiles (t.Mark mark.CloseParen) = bare_star n volatiles
 stars_move n volatiles _ = Opens (head.Stars n volatiles)
 
-abbrev pub params_start : ℕ → (inner : Bool) → Terminal → Move
-params_start at inner (t.Mark mark.CloseParen) = Ends (kind.Params inner false)
-params_start at inner (t.Key key.Void) = Shift (head.ParamsVoid inner at)
-params_start at inner _ = Opens (head.ParamsStart inner)
+abbrev pub params_start : (inner : Bool) → Terminal → Move
+params_start inner (t.Mark mark.CloseParen) = Ends (kind.Params inner false)
+params_start inner (t.Key key.Void) = Shift (head.ParamsVoid inner)
+params_start inner _ = Opens (head.ParamsStart inner)
 
 abbrev pub params_next : (inner : Bool) → Terminal → Move
 params_next inner (t.Mark mark.Comma) = Shift (head.ParamsMore inner)
@@ -559,9 +560,9 @@ abbrev pub dot_move : (arrow : Bool) → Terminal → Move
 dot_move arrow (t.Name x) = Ends (kind.Dot arrow x)
 dot_move arrow _ = Refused
 
-abbrev pub sizeof_start : ℕ → Terminal → Move
-sizeof_start at (t.Mark mark.OpenParen) = Shift (head.SizeofOpen at)
-sizeof_start at _ = Opens head.SizeofOf
+abbrev pub sizeof_start : Terminal → Move
+sizeof_start (t.Mark mark.OpenParen) = Shift head.SizeofOpen
+sizeof_start _ = Opens head.SizeofOf
 
 abbrev pub else_move : Terminal → Move
 else_move (t.Key key.Else) = Shift head.IfElse
@@ -579,119 +580,119 @@ abbrev pub end_or : Move → Move → Terminal → Move
 end_or m other t.End = m
 end_or m other _ = other
 
-abbrev pub move : Scope → ℕ → Head → Terminal → Move
-move scope at head.FileItems token = end_or (Shift head.FileOver) (Opens head.FileItems) token
-move scope at head.FileOver token = Refused
-move scope at head.GoalExpression token = Opens head.GoalExpression
-move scope at head.GoalRead token = end_or (Shift head.GoalOver) Refused token
-move scope at head.GoalOver token = Refused
-move scope at head.GoalHead token = Opens head.GoalHead
-move scope at head.HeadRead token = Refused
-move scope at (head.HeadOver words) token = Refused
-move scope at (head.Opened l) token = Refused
-move scope at head.Group token = Opens head.Group
-move scope at head.GroupEnd token = close_paren (Ends kind.Parens) token
-move scope at head.CastType token = Opens head.CastType
-move scope at head.CastEnd token = close_paren (Shift head.CastOf) token
-move scope at head.CastOf token = Opens head.CastOf
-move scope at (head.UnaryOf op) token = Opens (head.UnaryOf op)
-move scope at (head.PreOf minus) token = Opens (head.PreOf minus)
-move scope at head.SizeofStart token = sizeof_start at token
-move scope at (head.SizeofOpen p) token = Refused
-move scope at head.SizeofOf token = Opens head.SizeofOf
-move scope at head.SizeofType token = Opens head.SizeofType
-move scope at head.SizeofEnd token = close_paren (Ends kind.SizeofType) token
-move scope at (head.BinaryOf op) token = Opens (head.BinaryOf op)
-move scope at (head.AssignOf op) token = Opens (head.AssignOf op)
-move scope at head.CommaOf token = Opens head.CommaOf
-move scope at head.ChooseYes token = Opens head.ChooseYes
-move scope at head.ChooseColon token = colon (Shift head.ChooseNo) token
-move scope at head.ChooseNo token = Opens head.ChooseNo
-move scope at head.IndexOf token = Opens head.IndexOf
-move scope at head.IndexEnd token = close_bracket (Ends kind.Index) token
-move scope at head.CallStart token = paren_or (Ends kind.Call) (Opens head.CallStart) token
-move scope at head.CallNext token = call_next token
-move scope at head.CallMore token = Opens head.CallMore
-move scope at (head.DotOf arrow) token = dot_move arrow token
-move scope at head.BlockItems token = brace_or (Ends kind.Block) (Opens head.BlockItems) token
-move scope at head.ExpressionOf token = Opens head.ExpressionOf
-move scope at head.ExpressionEnd token = semicolon (Ends kind.Expression) token
-move scope at head.IfStart token = open_paren head.IfTest token
-move scope at head.IfTest token = Opens head.IfTest
-move scope at head.IfEnd token = close_paren (Shift head.IfThen) token
-move scope at head.IfThen token = Opens head.IfThen
-move scope at head.IfThenEnd token = else_move token
-move scope at head.IfElse token = Opens head.IfElse
-move scope at head.WhileStart token = open_paren head.WhileTest token
-move scope at head.WhileTest token = Opens head.WhileTest
-move scope at head.WhileEnd token = close_paren (Shift head.WhileBody) token
-move scope at head.WhileBody token = Opens head.WhileBody
-move scope at head.DoBody token = Opens head.DoBody
-move scope at head.DoWhile token = while_move token
-move scope at head.DoOpen token = open_paren head.DoTest token
-move scope at head.DoTest token = Opens head.DoTest
-move scope at head.DoClose token = close_paren (Shift head.DoEnd) token
-move scope at head.DoEnd token = semicolon (Ends kind.Do) token
-move scope at head.ForStart token = open_paren head.ForFirst token
-move scope at head.ForFirst token = semicolon_or (Shift (head.ForTest false)) (Opens head.ForFirst) token
-move scope at head.ForFirstEnd token = semicolon (Shift (head.ForTest true)) token
-move scope at (head.ForTest first) token = semicolon_or (Shift (head.ForStep first false)) (Opens (head.ForTest first)) token
-move scope at (head.ForTestEnd first) token = semicolon (Shift (head.ForStep first true)) token
-move scope at (head.ForStep first test) token = paren_or (Shift (head.ForBody first test false)) (Opens (head.ForStep first test)) token
-move scope at (head.ForStepEnd first test) token = close_paren (Shift (head.ForBody first test true)) token
-move scope at (head.ForBody first test step) token = Opens (head.ForBody first test step)
-move scope at head.SwitchStart token = open_paren head.SwitchValue token
-move scope at head.SwitchValue token = Opens head.SwitchValue
-move scope at head.SwitchEnd token = close_paren (Shift head.SwitchBrace) token
-move scope at head.SwitchBrace token = brace_move token
-move scope at head.SwitchItems token = brace_or (Ends kind.Switch) (Opens head.SwitchItems) token
-move scope at head.CaseOf token = Opens head.CaseOf
-move scope at head.CaseEnd token = colon (Ends kind.Case) token
-move scope at head.DefaultEnd token = colon (Ends kind.Default) token
-move scope at head.BreakEnd token = semicolon (Ends kind.Break) token
-move scope at head.ContinueEnd token = semicolon (Ends kind.Continue) token
-move scope at head.ReturnOf token = semicolon_or (Ends kind.Return) (Opens head.ReturnOf) token
-move scope at head.ReturnEnd token = semicolon (Ends kind.Return) token
-move scope at (head.Spec c words) token = spec_move scope c words token
-move scope at (head.TagStart c words is_union) token = tag_start c words is_union token
-move scope at (head.TagNamed c words is_union name) token = tag_move scope c words is_union name token
-move scope at (head.Members c words is_union name n) token = members_move c words is_union name n token
-move scope at (head.EnumStart c words) token = enum_start c words token
-move scope at (head.EnumNamed c words name) token = enum_move scope c words name token
-move scope at (head.Constants c words name n) token = Opens (head.Constants c words name n)
-move scope at (head.ConstantsNext c words name n) token = constants_next c words name n token
-move scope at (head.ConstantsComma c words name n) token =
+abbrev pub move : Scope → Head → Terminal → Move
+move scope head.FileItems token = end_or (Shift head.FileOver) (Opens head.FileItems) token
+move scope head.FileOver token = Refused
+move scope head.GoalExpression token = Opens head.GoalExpression
+move scope head.GoalRead token = end_or (Shift head.GoalOver) Refused token
+move scope head.GoalOver token = Refused
+move scope head.GoalHead token = Opens head.GoalHead
+move scope head.HeadRead token = Refused
+move scope (head.HeadOver words) token = Refused
+move scope (head.Opened l) token = Refused
+move scope head.Group token = Opens head.Group
+move scope head.GroupEnd token = close_paren (Ends kind.Parens) token
+move scope head.CastType token = Opens head.CastType
+move scope head.CastEnd token = close_paren (Shift head.CastOf) token
+move scope head.CastOf token = Opens head.CastOf
+move scope (head.UnaryOf op) token = Opens (head.UnaryOf op)
+move scope (head.PreOf minus) token = Opens (head.PreOf minus)
+move scope head.SizeofStart token = sizeof_start token
+move scope head.SizeofOpen token = Refused
+move scope head.SizeofOf token = Opens head.SizeofOf
+move scope head.SizeofType token = Opens head.SizeofType
+move scope head.SizeofEnd token = close_paren (Ends kind.SizeofType) token
+move scope (head.BinaryOf op) token = Opens (head.BinaryOf op)
+move scope (head.AssignOf op) token = Opens (head.AssignOf op)
+move scope head.CommaOf token = Opens head.CommaOf
+move scope head.ChooseYes token = Opens head.ChooseYes
+move scope head.ChooseColon token = colon (Shift head.ChooseNo) token
+move scope head.ChooseNo token = Opens head.ChooseNo
+move scope head.IndexOf token = Opens head.IndexOf
+move scope head.IndexEnd token = close_bracket (Ends kind.Index) token
+move scope head.CallStart token = paren_or (Ends kind.Call) (Opens head.CallStart) token
+move scope head.CallNext token = call_next token
+move scope head.CallMore token = Opens head.CallMore
+move scope (head.DotOf arrow) token = dot_move arrow token
+move scope head.BlockItems token = brace_or (Ends kind.Block) (Opens head.BlockItems) token
+move scope head.ExpressionOf token = Opens head.ExpressionOf
+move scope head.ExpressionEnd token = semicolon (Ends kind.Expression) token
+move scope head.IfStart token = open_paren head.IfTest token
+move scope head.IfTest token = Opens head.IfTest
+move scope head.IfEnd token = close_paren (Shift head.IfThen) token
+move scope head.IfThen token = Opens head.IfThen
+move scope head.IfThenEnd token = else_move token
+move scope head.IfElse token = Opens head.IfElse
+move scope head.WhileStart token = open_paren head.WhileTest token
+move scope head.WhileTest token = Opens head.WhileTest
+move scope head.WhileEnd token = close_paren (Shift head.WhileBody) token
+move scope head.WhileBody token = Opens head.WhileBody
+move scope head.DoBody token = Opens head.DoBody
+move scope head.DoWhile token = while_move token
+move scope head.DoOpen token = open_paren head.DoTest token
+move scope head.DoTest token = Opens head.DoTest
+move scope head.DoClose token = close_paren (Shift head.DoEnd) token
+move scope head.DoEnd token = semicolon (Ends kind.Do) token
+move scope head.ForStart token = open_paren head.ForFirst token
+move scope head.ForFirst token = semicolon_or (Shift (head.ForTest false)) (Opens head.ForFirst) token
+move scope head.ForFirstEnd token = semicolon (Shift (head.ForTest true)) token
+move scope (head.ForTest first) token = semicolon_or (Shift (head.ForStep first false)) (Opens (head.ForTest first)) token
+move scope (head.ForTestEnd first) token = semicolon (Shift (head.ForStep first true)) token
+move scope (head.ForStep first test) token = paren_or (Shift (head.ForBody first test false)) (Opens (head.ForStep first test)) token
+move scope (head.ForStepEnd first test) token = close_paren (Shift (head.ForBody first test true)) token
+move scope (head.ForBody first test step) token = Opens (head.ForBody first test step)
+move scope head.SwitchStart token = open_paren head.SwitchValue token
+move scope head.SwitchValue token = Opens head.SwitchValue
+move scope head.SwitchEnd token = close_paren (Shift head.SwitchBrace) token
+move scope head.SwitchBrace token = brace_move token
+move scope head.SwitchItems token = brace_or (Ends kind.Switch) (Opens head.SwitchItems) token
+move scope head.CaseOf token = Opens head.CaseOf
+move scope head.CaseEnd token = colon (Ends kind.Case) token
+move scope head.DefaultEnd token = colon (Ends kind.Default) token
+move scope head.BreakEnd token = semicolon (Ends kind.Break) token
+move scope head.ContinueEnd token = semicolon (Ends kind.Continue) token
+move scope head.ReturnOf token = semicolon_or (Ends kind.Return) (Opens head.ReturnOf) token
+move scope head.ReturnEnd token = semicolon (Ends kind.Return) token
+move scope (head.Spec c words) token = spec_move scope c words token
+move scope (head.TagStart c words is_union) token = tag_start c words is_union token
+move scope (head.TagNamed c words is_union name) token = tag_move scope c words is_union name token
+move scope (head.Members c words is_union name n) token = members_move c words is_union name n token
+move scope (head.EnumStart c words) token = enum_start c words token
+move scope (head.EnumNamed c words name) token = enum_move scope c words name token
+move scope (head.Constants c words name n) token = Opens (head.Constants c words name n)
+move scope (head.ConstantsNext c words name n) token = constants_next c words name n token
+move scope (head.ConstantsComma c words name n) token =
     brace_or (Shift (head.Spec c (words ++ word.Enum name (Some n) true ∷ []))) (Opens (head.ConstantsComma c words name n)) token
-move scope at (head.ConstantNamed name) token = constant_named name token
-move scope at (head.ConstantOf name) token = Opens (head.ConstantOf name)
-move scope at (head.Declarators c words inits) token = Opens (head.Declarators c words inits)
-move scope at (head.Declared c words inits) token = declared_move c words inits token
-move scope at (head.Initialised c words inits) token = Opens (head.Initialised c words inits)
-move scope at (head.InitialisedEnd c words inits) token = next_declarator c words (inits ++ true ∷ []) token
-move scope at (head.FunctionBody words) token = Refused
-move scope at (head.MemberDeclarators words) token = Opens (head.MemberDeclarators words)
-move scope at (head.MemberDeclared words) token = member_declared words token
-move scope at (head.ParamOf words) token = Opens (head.ParamOf words)
-move scope at (head.TypeOf words) token = Opens (head.TypeOf words)
-move scope at (head.Stars n volatiles) token = stars_move n volatiles token
-move scope at (head.DeclOpened n) token = Refused
-move scope at (head.DeclGroup n) token = Opens (head.DeclGroup n)
-move scope at (head.DeclGroupEnd n) token = close_paren (Ends kind.DeclParens) token
-move scope at (head.BracketsStart inner) token = bracket_or (Ends (kind.Brackets inner false)) (Opens (head.BracketsStart inner)) token
-move scope at (head.BracketsEnd inner) token = close_bracket (Ends (kind.Brackets inner true)) token
-move scope at (head.ParamsStart inner) token = params_start at inner token
-move scope at (head.ParamsNext inner) token = params_next inner token
-move scope at (head.ParamsLone inner) token = by_comma (head.ParamsMore inner) token
-move scope at (head.ParamsMore inner) token = Opens (head.ParamsMore inner)
-move scope at (head.ParamsVoid inner p) token = close_paren (Ends (kind.Params inner true)) token
-move scope at head.ListStart token = Opens head.ListStart
-move scope at head.ListNext token = list_next token
-move scope at head.ListComma token = brace_or (Ends (kind.InitList true)) (Opens head.ListComma) token
-move scope at head.EntryIndex token = Opens head.EntryIndex
-move scope at head.EntryIndexEnd token = close_bracket (Shift (head.EntryNamed by.Index)) token
-move scope at head.EntryDot token = entry_dot token
-move scope at (head.EntryNamed place) token = entry_named place token
-move scope at (head.EntryOf place equals) token = Opens (head.EntryOf place equals)
+move scope (head.ConstantNamed name) token = constant_named name token
+move scope (head.ConstantOf name) token = Opens (head.ConstantOf name)
+move scope (head.Declarators c words inits) token = Opens (head.Declarators c words inits)
+move scope (head.Declared c words inits) token = declared_move c words inits token
+move scope (head.Initialised c words inits) token = Opens (head.Initialised c words inits)
+move scope (head.InitialisedEnd c words inits) token = next_declarator c words (inits ++ true ∷ []) token
+move scope (head.FunctionBody words) token = Refused
+move scope (head.MemberDeclarators words) token = Opens (head.MemberDeclarators words)
+move scope (head.MemberDeclared words) token = member_declared words token
+move scope (head.ParamOf words) token = Opens (head.ParamOf words)
+move scope (head.TypeOf words) token = Opens (head.TypeOf words)
+move scope (head.Stars n volatiles) token = stars_move n volatiles token
+move scope (head.DeclOpened n) token = Refused
+move scope (head.DeclGroup n) token = Opens (head.DeclGroup n)
+move scope (head.DeclGroupEnd n) token = close_paren (Ends kind.DeclParens) token
+move scope (head.BracketsStart inner) token = bracket_or (Ends (kind.Brackets inner false)) (Opens (head.BracketsStart inner)) token
+move scope (head.BracketsEnd inner) token = close_bracket (Ends (kind.Brackets inner true)) token
+move scope (head.ParamsStart inner) token = params_start inner token
+move scope (head.ParamsNext inner) token = params_next inner token
+move scope (head.ParamsLone inner) token = by_comma (head.ParamsMore inner) token
+move scope (head.ParamsMore inner) token = Opens (head.ParamsMore inner)
+move scope (head.ParamsVoid inner) token = close_paren (Ends (kind.Params inner true)) token
+move scope head.ListStart token = Opens head.ListStart
+move scope head.ListNext token = list_next token
+move scope head.ListComma token = brace_or (Ends (kind.InitList true)) (Opens head.ListComma) token
+move scope head.EntryIndex token = Opens head.EntryIndex
+move scope head.EntryIndexEnd token = close_bracket (Shift (head.EntryNamed by.Index)) token
+move scope head.EntryDot token = entry_dot token
+move scope (head.EntryNamed place) token = entry_named place token
+move scope (head.EntryOf place equals) token = Opens (head.EntryOf place equals)
 
 -- What a token makes of the expression or declarator before it
 
@@ -845,7 +846,7 @@ resolve f s scope at token next Refused = None
 
 abbrev pub attach : Frame → Stack → Read → Scope → ℕ → Terminal → (Read → Scope → Option State) → After → Option State
 attach f s n scope at token next (To h) =
-    resolve (record { head = h; from = f.from; parts = push f.parts n.tree; told = retold f.head f.told n.told }) s scope at token next (move scope at h token)
+    resolve (record { head = h; from = f.from; parts = push f.parts n.tree; told = retold f.head f.told n.told }) s scope at token next (move scope h token)
 attach f s n scope at token next (Makes k) =
     next (made k f.from (push f.parts n.tree) (retold f.head f.told n.told) scope) (leave k scope)
 attach f s n scope at token next Unwanted = None
@@ -883,19 +884,19 @@ or_close_paren begins token = choose begins true (is_close_paren token)
 abbrev pub decide : Frame → Stack → Scope → ℕ → Terminal → Head → State
 decide f s scope at token (head.Opened l) =
     state (moved f (choose (begins_type scope token && nat_le l 14) head.CastType head.Group) ∷ s) scope at None
-decide f s scope at token (head.SizeofOpen p) =
-    state (choose (begins_type scope token) (moved f head.SizeofType ∷ s) (fresh head.Group p ∷ moved f head.SizeofOf ∷ s)) scope at None
+decide f s scope at token head.SizeofOpen =
+    state (choose (begins_type scope token) (moved f head.SizeofType ∷ s) (fresh head.Group (pred at) ∷ moved f head.SizeofOf ∷ s)) scope at None
 decide f s scope at token (head.DeclOpened n) =
     choose (or_close_paren (begins_type scope token) token)
     (state (moved f (head.ParamsStart false) ∷ s) ([] ∷ scope) at None)
     (state (moved f (head.DeclGroup n) ∷ s) scope at None)
-decide f s scope at token (head.ParamsVoid inner p) =
-    state (choose (is_close_paren token) (f ∷ s) (fresh (head.Spec context.Param (word.Void ∷ [])) p ∷ moved f (head.ParamsStart inner) ∷ s)) scope at None
+decide f s scope at token (head.ParamsVoid inner) =
+    state (choose (is_close_paren token) (f ∷ s) (fresh (head.Spec context.Param (word.Void ∷ [])) (pred at) ∷ moved f (head.ParamsStart inner) ∷ s)) scope at None
 decide f s scope at token _ = state (f ∷ s) scope at None
 
 abbrev pub feed : Stack → Scope → ℕ → Terminal → Option State
 feed [] scope at token = None
-feed (f ∷ s) scope at token = resolve f s scope at token (λ m scope'. settle s m scope' at token) (move scope at f.head token)
+feed (f ∷ s) scope at token = resolve f s scope at token (λ m scope'. settle s m scope' at token) (move scope f.head token)
 
 abbrev pub fed : State → Terminal → Option State
 fed st token = feed st.stack st.scope st.at token

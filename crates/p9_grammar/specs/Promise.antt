@@ -55,6 +55,10 @@ ReadsFiles = (items : Trees) → IsFile items → IsRead items (run (Some file_s
 abbrev pub RefusesRightly : Type 0
 RefusesRightly = (ts : List Terminal) → run (Some file_start) ts ≡ None → BeginsFile ts → ⊥
 
+-- Where it comes to the end, the items are a well-formed file, and the tokens read are its own.
+abbrev pub ReadsOnlyFiles : Type 0
+ReadsOnlyFiles = (items : Trees) (ts : List Terminal) → IsRead items (run (Some file_start) ts) → IsFile items × (file_tokens items ≡ ts)
+
 -- a file: `int x;`
 abbrev pub small_items : Trees
 small_items = more (node (kind.Declaration (record { words = word.Int ∷ [] }) (false ∷ [])) 0 (more (node (kind.DeclName (codes "x")) 1 none) none)) none

@@ -1,5 +1,5 @@
 -- Trees: nodes with their kind, the place of their first token, and their parts in order.
-use Rattle.std.specs.Prelude.{ℕ, suc, ◌+◌, List, [], ◌∷◌, max}
+use Rattle.std.specs.Prelude.{ℕ, suc, ◌+◌, ◌≤◌, nat_le, List, [], ◌∷◌, if◌then◌else◌, max}
 use Rattle.p9_lang.specs.declared.tree.Kind.{Kind}
 use Rattle.p9_lang.specs.declared.tree.Node.{Node, fold-Node}
 use Rattle.p9_lang.specs.declared.tree.Node.TheOpen.{Node-F}

@@ -68,7 +68,7 @@ pub enum Head {
     UnaryOf(CUnary),
     PreOf(bool),
     SizeofStart,
-    SizeofOpen(u32),
+    SizeofOpen,
     SizeofOf,
     SizeofType,
     SizeofEnd,
@@ -157,7 +157,7 @@ pub enum Head {
     ParamsNext(bool),
     ParamsLone(bool),
     ParamsMore(bool),
-    ParamsVoid(bool, u32),
+    ParamsVoid(bool),
     // Initialisers.
     ListStart,
     ListNext,

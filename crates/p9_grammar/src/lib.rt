@@ -9,8 +9,8 @@ mod terminal;
 
 pub use head::{Class, Context, Head, Naming};
 pub use laws::{
-    expressions_have_one_tree, files_have_one_tree, machine_reads_files, machine_refuses_rightly,
-    small_file,
+    expressions_have_one_tree, files_have_one_tree, machine_reads_files, machine_reads_only_files,
+    machine_refuses_rightly, small_file,
 };
 pub use scope::ScopeName;
 pub use terminal::{Keyword, Punctuator, Terminal};
