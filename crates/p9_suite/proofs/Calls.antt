@@ -7,7 +7,6 @@ use Rattle.p9_base.specs.Outside.{Held, TakeCall, PutCall, FileCall, ReadCall, W
 use Rattle.p9_base.specs.Streams.{CallsDid}
 use Rattle.p9_base.specs.declared.outside.FileFault.{FileFault}
 use Rattle.p9_base.specs.declared.outside.FileFault.TheVariants as fault
-use Rattle.p9_suite.proofs.Telling.{if_some}
 use Rattle.p9_suite.specs.Scene.{doing, objects, names_written}
 
 -- Calls in two parts
@@ -109,6 +108,13 @@ pub names_reads : (calls : List FileCall) → AreReads calls → names_written (
 names_reads [] r = refl
 names_reads (ReadCall name answer ∷ calls) r = names_reads calls r
 names_reads (WriteCall name bytes answer ∷ calls) r = absurd r
+
+if_some : {A : Type 0} {o : Option A} {x : A} (P : A → Type 0) → o ≡ Some x → IfSome o P → P x
+if_some {o = None} P e h = cc
+if_some {o = Some y} P e h = subst P (same e) h
+  where
+    same : {A : Type 0} {x y : A} → Some x ≡ Some y → x ≡ y
+    same e = cc
 
 pub some_and : {A : Type 0} {o : Option A} (P : A → Type 0) → IsSomeAnd o P → (x : A) × (o ≡ Some x) × P x
 some_and {o = None} P h = absurd h

@@ -1,7 +1,6 @@
 -- What is special to the form of C so far.
 use Rattle.std.proofs.Common.{◌≡◌, ◌≢◌, ◌≤◌, ℕ, ◌+◌, Bool, true, false, List, [], ◌∷◌, ◌++◌, map, Option, Some, None, Result, Ok, Err, refl, sym, ◌∙◌, ap, subst}
 use Rattle.std.specs.Prelude.{IsSomeAnd}
-use Rattle.std.proofs.lemmas.Option.{same_Some}
 use Rattle.p9_agree.specs.Depth.{IsNotDeep}
 use Rattle.p9_base.specs.CallBytes.{IsSteady, brought_in, written_in}
 use Rattle.p9_base.specs.Calls.{Call, OnFiles, OnStream, StreamCall, StreamsDid, Objects, Did}
@@ -73,6 +72,9 @@ no_refusal_run Memory e = cc
 
 -- The end of the sources
 
+some_same : {A : Type 0} {x y : A} → Some x ≡ Some y → x ≡ y
+some_same e = cc
+
 defined : (input : List ℕ) (o : Outcome) → IsNotDeep o → ((output : List ℕ) (why : Cause) (place : Place) → o ≢ outcome.Undefined output why place) → IsDefined (seen_of input o)
 defined input (outcome.Ended output text) deep undefined = tt
 defined input (outcome.Out output) deep undefined = tt
@@ -110,7 +112,7 @@ exit_of : (budget : ℕ) (core : Core) (after out : List ℕ) (v : Option State)
 unfolding state
 exit_of budget core after out None output text rest e h = absurd h
 exit_of budget core after out (Some s) output text rest e h =
-    let same : s ≡ state core after out = same_Some s (state core after out) e in
+    let same : s ≡ state core after out = some_same e in
     let x : IsExited core.ending = subst (λ (t : State). IsExited t.core.ending) same h.0 in
     let t : exit_text core ≡ text = ap (λ (t : State). exit_text t.core) (sym same) ∙ h.1 in
     (exit_by budget core core.ending x ∙ ap exit_answer t, ap (λ (t : State). t.out) (sym same) ∙ h.2)

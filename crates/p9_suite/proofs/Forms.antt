@@ -2,6 +2,7 @@
 use Rattle.std.proofs.Common.{◌≡◌, ℕ, ◌-◌, ◌≤◌, ◌<◌, suc, List, [], ◌∷◌, ◌++◌, All, length, take, drop, get_or, Option, Some, None, IfSome, Result, Ok, Err, refl, sym, ◌∙◌, ap, subst, append_assoc, append-nil, arith}
 use Rattle.std.proofs.Math.Seq.{take-length}
 use Rattle.std.proofs.lemmas.List.Elements.{All-cons, All-nil}
+use Rattle.p9_base.proofs.CallLemmas.{none_some}
 use Rattle.p9_base.specs.Outside.{FileCall}
 use Rattle.p9_base.specs.declared.bytes.NoMemory.{NoMemory}
 use Rattle.p9_first.specs.Form.{IsFile}
@@ -9,8 +10,7 @@ use Rattle.p9_form.specs.declared.file.File.{File}
 use Rattle.p9_form.specs.Items.{items_of}
 use Rattle.p9_form.specs.Sharing.{IsSmall}
 use Rattle.p9_form.specs.Spelling.{HasForm, HasNoForm}
-use Rattle.p9_suite.proofs.StageLemmas.{ok_same, store_refused, store_went_on}
-use Rattle.p9_suite.proofs.Telling.{if_some}
+use Rattle.p9_suite.proofs.StageLemmas.{store_refused, store_went_on}
 use Rattle.p9_suite.specs.declared.answer.Refusal.{Refusal}
 use Rattle.p9_suite.specs.declared.answer.Refusal.TheVariants.{NotBuilt, Memory}
 use Rattle.p9_suite.specs.Stages.{MakesOnStore, Stage, Then, stops, goes_on, ReadsFile, found}
@@ -110,29 +110,41 @@ split_reads name names files _ (goes_on file _ front behind one more) = by behin
     by _ (goes_on others _ reads last rest given) = record {
       file = file;
       others = others;
-      are = ok_same given.0;
+      are = is_ok given.0;
       front = front;
       behind = reads;
       made = ap (λ x. front ++ (reads ++ x)) given.1 ∙ ap (λ x. front ++ x) (append-nil reads);
       first = one;
       rest = rest;
     }
+      where
+        is_ok : {A : Type 0} {x y : A} → ◌≡◌ {A = Result A Refusal} (Ok x) (Ok y) → x ≡ y
+        is_ok e = cc
 
 pub files_form : (names : List (List ℕ)) (files : List File) (calls : List FileCall) → ReadsForms names (Ok files) calls → All (λ f. IsFile (items_of f)) files
-files_form [] files calls r = subst (λ (x : List File). All (λ f. IsFile (items_of f)) x) (sym (ok_same r.0)) (All-nil (λ f. IsFile (items_of f)))
+files_form [] files calls r = subst (λ (x : List File). All (λ f. IsFile (items_of f)) x) (sym (ok_is r.0)) (All-nil (λ f. IsFile (items_of f)))
+  where
+    ok_is : ◌≡◌ {A = Result (List File) Refusal} (Ok files) (Ok []) → files ≡ []
+    ok_is e = cc
 files_form (name ∷ names) files calls r =
     let s = split_reads name names files calls r in
     subst (λ (x : List File). All (λ f. IsFile (items_of f)) x) (sym s.are)
     (All-cons (λ f. IsFile (items_of f)) s.file s.others (form_of name s.file s.front s.first).0 (files_form names s.others s.behind s.rest))
 
 pub files_small : (names : List (List ℕ)) (files : List File) (calls : List FileCall) → ReadsForms names (Ok files) calls → All IsSmall files
-files_small [] files calls r = subst (λ (x : List File). All IsSmall x) (sym (ok_same r.0)) (All-nil IsSmall)
+files_small [] files calls r = subst (λ (x : List File). All IsSmall x) (sym (ok_is r.0)) (All-nil IsSmall)
+  where
+    ok_is : ◌≡◌ {A = Result (List File) Refusal} (Ok files) (Ok []) → files ≡ []
+    ok_is e = cc
 files_small (name ∷ names) files calls r =
     let s = split_reads name names files calls r in
     subst (λ (x : List File). All IsSmall x) (sym s.are) (All-cons IsSmall s.file s.others (form_of name s.file s.front s.first).1 (files_small names s.others s.behind s.rest))
 
 pub files_count : (names : List (List ℕ)) (files : List File) (calls : List FileCall) → ReadsForms names (Ok files) calls → length files ≡ length names
-files_count [] files calls r = ap length (ok_same r.0)
+files_count [] files calls r = ap length (ok_is r.0)
+  where
+    ok_is : ◌≡◌ {A = Result (List File) Refusal} (Ok files) (Ok []) → files ≡ []
+    ok_is e = cc
 files_count (name ∷ names) files calls r =
     let s = split_reads name names files calls r in ap length s.are ∙ ap suc (files_count names s.others s.behind s.rest)
 
@@ -148,8 +160,15 @@ module _ {F : Type 0} (does : F → FileCall → F → Type 0) (f g : F) (names 
 
 -- One file
 
+some_is : {A : Type 0} {o : Option A} {x : A} (P : A → Type 0) → o ≡ Some x → IfSome o P → P x
+some_is {o = None} P e h = absurd (none_some _ e)
+some_is {o = Some y} P e h = subst P (some_same e) h
+  where
+    some_same : {A : Type 0} {x y : A} → Some x ≡ Some y → x ≡ y
+    some_same e = cc
+
 pub takes : (name bytes : List ℕ) (answer : Option File) (file : File) → answer ≡ Some file → IfSome answer (λ file. HasForm bytes (items_of file)) → IfSome answer (λ file. IsSmall file) → TakesForm {C = FileCall} name bytes (Ok file) []
-takes name bytes answer file e form small = taken file (if_some (λ file. HasForm bytes (items_of file)) e form) (if_some IsSmall e small)
+takes name bytes answer file e form small = taken file (some_is (λ file. HasForm bytes (items_of file)) e form) (some_is IsSmall e small)
 
 pub takes_not : (name word bytes : List ℕ) (answer : Option File) → answer ≡ None → word ≡ name → (◌≡◌ {A = Result (Option File) NoMemory} (Ok answer) (Ok None) → HasNoForm bytes) → TakesForm {C = FileCall} name bytes (Err (NotBuilt word)) []
 takes_not name word bytes answer e w none = subst (λ (x : List ℕ). TakesForm {C = FileCall} name bytes (Err (NotBuilt x)) []) (sym w) (formless (none (ap Ok e)))

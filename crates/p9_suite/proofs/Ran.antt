@@ -13,7 +13,6 @@ use Rattle.p9_r3k.specs.Machine.{asked}
 use Rattle.p9_vi.specs.Run.{vrun}
 use Rattle.p9_vi.specs.Stops.{IsAtCall}
 use Rattle.p9_suite.proofs.Calls.{ends_streams}
-use Rattle.p9_suite.proofs.StageLemmas.{ok_same}
 use Rattle.p9_suite.proofs.Telling.{Brought, told_input, told_out, brought_append, written_append, steady_front, brought_takes, written_takes, brought_puts, written_puts}
 use Rattle.p9_suite.specs.Answers.{status, message}
 use Rattle.p9_suite.specs.Scene.{Scene, IsAnswer, HasPut, left, left_now, failing_at, has_run, is_early}
@@ -26,6 +25,9 @@ use Rattle.p9_suite.specs.declared.answer.Refusal.{Refusal}
 
 seven_eight : ◌≡◌ {A = ℕ} 7 8 → ⊥
 seven_eight e = cc
+
+ok_same : {A E : Type 0} {x y : A} → ◌≡◌ {A = Result A E} (Ok x) (Ok y) → x ≡ y
+ok_same e = cc
 
 -- The statuses of simulations
 

@@ -11,9 +11,6 @@ use Rattle.p9_suite.specs.declared.answer.Refusal.TheVariants.{Absent, StoreFaul
 use Rattle.p9_suite.specs.Scene.{doing, objects}
 use Rattle.p9_suite.specs.Stages.{Stage, Then, stops, goes_on, OnStore, OnStreams, Makes, MakesOnStore, MakesOnStreams, ReadsFile, found, absent, read_fault, read_no_memory, name_no_memory, WritesFile, written, write_fault, write_no_memory, output_no_memory}
 
-pub ok_same : {A E : Type 0} {x y : A} → ◌≡◌ {A = Result A E} (Ok x) (Ok y) → x ≡ y
-ok_same e = cc
-
 -- On the store alone
 
 did_append : {S C : Type 0} (does : S → C → S → Type 0) (xs ys : List C) (a b c : S) → CallsDid does a xs b → CallsDid does b ys c → CallsDid does a (xs ++ ys) c

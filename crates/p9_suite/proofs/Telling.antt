@@ -2,18 +2,18 @@
 use Rattle.std.proofs.Common.{◌≡◌, ℕ, ◌+◌, ◌-◌, ◌<◌, ◌≤◌, List, [], ◌∷◌, ◌++◌, length, take, drop, map, Option, Some, None, IfSome, refl, sym, ◌∙◌, ap, subst, append_assoc, append-nil, arith}
 use Rattle.std.proofs.lemmas.Grind.{common_steps}
 use Rattle.std.proofs.lemmas.List.{take-append-drop}
-use Rattle.std.proofs.lemmas.Option.{same_Some}
-use Rattle.p9_base.proofs.CallLemmas.{none_some}
 use Rattle.p9_base.specs.CallBytes.{brought_by, brought, written_by, written, brought_in, written_in, KeepsRest, StaysEnded, IsSteady}
 use Rattle.p9_base.specs.Calls.{StreamCall, OnInput, OnOut, StreamsDid}
 use Rattle.p9_base.specs.Outside.{TakeCall, Take, TakeMeans, PutCall, PutPiece, PutMeans}
 use Rattle.p9_base.specs.declared.outside.Put as put
 use Rattle.p9_base.specs.declared.outside.Took as took
 
--- what holds of the content if there is some
-pub if_some : {A : Type 0} {o : Option A} {x : A} (P : A → Type 0) → o ≡ Some x → IfSome o P → P x
-if_some {o = None} {x = x} P e h = absurd (none_some x e)
-if_some {o = Some y} {x = x} P e h = subst P (same_Some y x e) h
+if_some : {A : Type 0} {o : Option A} {x : A} (P : A → Type 0) → o ≡ Some x → IfSome o P → P x
+if_some {o = None} P e h = cc
+if_some {o = Some y} P e h = subst P (same e) h
+  where
+    same : {A : Type 0} {x y : A} → Some x ≡ Some y → x ≡ y
+    same e = cc
 
 -- one take
 

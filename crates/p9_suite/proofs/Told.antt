@@ -11,7 +11,6 @@ use Rattle.p9_suite.proofs.Calls.{AllAgree, agree_split}
 use Rattle.p9_suite.proofs.Forms.{split_reads}
 use Rattle.p9_suite.proofs.Meaning.{Meaning, told_by}
 use Rattle.p9_suite.proofs.Ran as runs
-use Rattle.p9_suite.proofs.StageLemmas.{ok_same}
 use Rattle.p9_suite.specs.Answers.{refusal_status}
 use Rattle.p9_suite.specs.Scene.{Scene, IsAnswer, held}
 use Rattle.p9_suite.specs.Simulation.{Simulates, stopped, read_failed, write_failed}
@@ -49,8 +48,14 @@ simulation_told call means file budget r calls i o e q d s is =
 
 -- Files that were read
 
+err_same : {A : Type 0} {x y : Refusal} → ◌≡◌ {A = Result A Refusal} (Err x) (Err y) → x ≡ y
+err_same e = cc
+
 err_no_ok : {A : Type 0} {x : Refusal} {y : A} → ◌≡◌ {A = Result A Refusal} (Err x) (Ok y) → ⊥
 err_no_ok e = cc
+
+ok_same : {A : Type 0} {x y : A} → ◌≡◌ {A = Result A Refusal} (Ok x) (Ok y) → x ≡ y
+ok_same e = cc
 
 form_told : (before : Held) (name : List ℕ) (file : File) (own : List FileCall) → ReadsForm name (Ok file) own → AllAgree before own → (bytes : List ℕ) × (before name ≡ Some bytes) × HasForm bytes (items_of file)
 form_told before name file _ (goes_on _ _ front behind (found bytes) t) a = (bytes, a.0, by bytes behind t)
