@@ -185,7 +185,7 @@ main_good = record {
     instructions =
         all_cons (IsInstruction 0 1) (record { op = Ret; operands = [] }) []
         (record {
-          form = record { in_table = refl; shifts = tt };
+          form = refl;
           operands = all_none (IsInRange 0 1);
           destination = λ e. absurd (true_not_false (sym e));
         })

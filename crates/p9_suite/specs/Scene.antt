@@ -25,8 +25,6 @@ pub record Scene (I O F : Type 0) : Type 1 where
   pub status : ℕ
   pub Line : List ℕ → Type 0
 
--- the parts of a scene
-
 abbrev pub doing : {I O F : Type 0} → (I → TakeCall → I → Type 0) → (O → PutCall → O → Type 0) → (F → FileCall → F → Type 0) → Doing I O F
 doing takes puts stores = record { takes = takes; puts = puts; stores = stores }
 
