@@ -1,5 +1,5 @@
 -- The delayed machine at lines and at added no-ops.
-use Rattle.std.proofs.Common.{ℕ, zero, suc, ◌+◌, ◌-◌, ◌/◌, ◌%◌, ◌^◌, ◌==◌, ◌≡◌, ◌≤◌, ◌<◌, ◌||◌, ◌&&◌, nat_lt, nat_le, Bool, true, false, not, Some, None, Ok, Err, refl, sym, ap, ◌∙◌, subst, arith, if◌then◌else◌, List, length, slice_get}
+use Rattle.std.proofs.Common.{ℕ, zero, suc, ◌+◌, ◌-◌, ◌/◌, ◌%◌, ◌^◌, ◌==◌, ◌≡◌, ◌⊎◌, inl, inr, ◌≤◌, ◌<◌, ◌||◌, ◌&&◌, nat_lt, nat_le, Bool, true, false, not, Some, None, Ok, Err, refl, sym, ap, ◌∙◌, subst, arith, if◌then◌else◌, List, length, slice_get}
 use Rattle.std.proofs.lemmas.Option.{slice_get_within}
 use Rattle.std.proofs.lemmas.Bool.Decides.{nat_tests}
 use Rattle.p9_base.specs.Words.{word_sum}
@@ -17,9 +17,12 @@ use Rattle.p9_r3k.specs.Delayed.{line_address, noop, aimed, fetched_line, line_e
 use Rattle.p9_r3k.proofs.Agreeing.{rests_on_what_it_reads, asks_by_what_it_reads}
 use Rattle.p9_r3k.proofs.TextApart.{same_with_text, asks_same_with_text}
 use Rattle.p9_r3k.proofs.DelayedRuns.{delayed_run-zero, delayed_run-one, delayed_run-sum}
-use Rattle.p9_slot.specs.Schedule.{is_at, HaveTargets, TargetsAreLines}
-use Rattle.p9_slot.proofs.Numbers.{count_if}
-use Rattle.p9_slot.proofs.Arranging.{Arranged}
+use Rattle.p9_r3k.specs.UseLaws.{SameUses}
+use Rattle.p9_slot.specs.declared.placing.Recent.{Recent}
+use Rattle.p9_slot.specs.Schedule.{HaveTargets, TargetsAreLines}
+use Rattle.p9_slot.specs.Placing.{nothing}
+use Rattle.p9_slot.proofs.Scanning.{IsClear, AreClear, scan, scan-next}
+use Rattle.p9_slot.proofs.Entering.{gap, BlockAt}
 
 -- What of a state belongs to the delays and the text
 
@@ -63,12 +66,16 @@ plain-agrees i k c pc at = record {
   size = λ h. refl;
 }
 
+-- where a marked core agrees with another one in what an instruction reads
+pub effect-agreed : (i : Inst) (k : Marks) (c d : Core) → Agree i d (without_text (marked_core k c)) → k.text_end ≤ c.data_start →
+    NoStop (effect_of i d) → effect_of i (marked_core k c) ≡ effect_of i d
+effect-agreed i k c d agree below h =
+    let e : effect_of i (without_text (marked_core k c)) ≡ effect_of i d = rests_on_what_it_reads i d (without_text (marked_core k c)) agree in
+    same_with_text i (marked_core k c) k.text_end below (subst NoStop (sym e) h) ∙ e
+
 pub effect-marked : (i : Inst) (k : Marks) (c : Core) (pc : ℕ) → k.pc ≡ pc → k.text_end ≤ c.data_start →
     NoStop (effect_of i (plain_core pc c)) → effect_of i (marked_core k c) ≡ effect_of i (plain_core pc c)
-effect-marked i k c pc at below h =
-    let e : effect_of i (without_text (marked_core k c)) ≡ effect_of i (plain_core pc c) =
-    rests_on_what_it_reads i (plain_core pc c) (without_text (marked_core k c)) (plain-agrees i k c pc at) in
-    same_with_text i (marked_core k c) k.text_end below (subst NoStop (sym e) h) ∙ e
+effect-marked i k c pc at below h = effect-agreed i k c (plain_core pc c) (plain-agrees i k c pc at) below h
 
 pub asked-marked : (k : Marks) (c : Core) (pc : ℕ) → k.text_end ≤ c.data_start →
     NoStopAsked (asked (plain_core pc c)) → asked (marked_core k c) ≡ asked (plain_core pc c)
@@ -153,88 +160,94 @@ noop-acts a lines q k s running at found =
 
 -- Where the delayed machine stands
 
+-- marks are at most what the lines before have left
+pub record Within (k : Marks) (r : Recent) : Type 0 where
+  pub used : k.used ≡ true → r.last ≡ true
+  pub used_before : k.used_before ≡ true → r.before ≡ true
+  pub loaded : (k.loaded ≡ 0) ⊎ (k.loaded ≡ r.loaded)
+
+fewer : (w a b x y : Bool) → (a ≡ true → x ≡ true) → (b ≡ true → y ≡ true) → (w && (x || y)) ≡ false → (w && (a || b)) ≡ false
+fewer false a b x y f g h = refl
+fewer true false false x y f g h = refl
+fewer true true b x y f g h =
+    absurd (let all : (x || y) ≡ true = ap (λ z. z || y) (f refl) in let z : true ≡ false = sym all ∙ h in cc)
+fewer true false true true y f g h = h
+fewer true false true false y f g h = absurd (let z : true ≡ false = sym (g refl) ∙ h in cc)
+
+pub clear-within : (i : Inst) (k : Marks) (r : Recent) → Within k r → IsClear r i → (k.slot && branches i) ≡ false → Clear i k
+clear-within i k r within clear slot = record {
+  loaded = by_load within.loaded;
+  pair = fewer (writes_pair i) k.used k.used_before r.last r.before within.used within.used_before clear.pair;
+  slot = slot;
+}
+  where
+    by_load : (k.loaded ≡ 0) ⊎ (k.loaded ≡ r.loaded) → (not (k.loaded == 0) && reads i k.loaded) ≡ false
+    by_load (inl z) = subst (λ n. (not (n == 0) && reads i n) ≡ false) (sym z) refl
+    by_load (inr z) = subst (λ n. (not (n == 0) && reads i n) ≡ false) (sym z) clear.load
+
+pub clear-filled : (r : Recent) (i j : Inst) → SameUses i j → IsClear r i → IsClear r j
+clear-filled r i j uses h = record {
+  pair = ap (λ b. b && (r.last || r.before)) uses.pair_writer ∙ h.pair;
+  load = ap (λ b. not (r.loaded == 0) && b) (uses.registers r.loaded) ∙ h.load;
+}
+
 -- old lines and an answer, with addresses that are words
-pub record Setting (m : ℕ → ℕ) (old new : List Line) : Type 0 where
-  pub arranged : Arranged m old new
+pub record Setting (e : ℕ → ℕ) (begins moved : ℕ → Bool) (old new : List Line) : Type 0 where
+  pub clear : AreClear nothing new
+  pub first : e 0 ≡ 0
+  pub first_begins : begins 0 ≡ true
+  pub block : (i : ℕ) (line : Line) → begins i ≡ true → slice_get old i ≡ Some line → BlockAt e e begins moved old new i line
   pub targets : HaveTargets old
   pub inside : TargetsAreLines old
-  pub small : (i : ℕ) → i ≤ length old → line_address (m i) < 2 ^ 29
+  pub open_targets : (i : ℕ) (line : Line) (t : ℕ) → slice_get old i ≡ Some line → line.target ≡ Some t → begins t ≡ true
+  pub open_least : (i : ℕ) → begins i ≡ false → (j : ℕ) × (i ≡ suc j) × (e j ≡ e i)
+  pub small : (i : ℕ) → i ≤ length old → line_address (e i) < 2 ^ 29
 
--- the old line before line i read HI or LO, and new line q is directly behind it
-pub record ReaderBefore (m : ℕ → ℕ) (old : List Line) (i q : ℕ) : Type 0 where
-  pub line : ℕ
-  pub just_before : i ≡ suc line
-  pub reader : is_at reads_pair old line ≡ true
-  pub place : q ≡ m line + 1
-
--- it is at new line q and comes to old line i, with at most no-ops before it
-pub record Comes (m : ℕ → ℕ) (old new : List Line) (text_end i q : ℕ) (k : Marks) : Type 0 where
+-- it is at new line q and comes to the block that old line i begins, with at most no-ops before it
+pub record Comes (e : ℕ → ℕ) (begins : ℕ → Bool) (new : List Line) (text_end i q : ℕ) (k : Marks) : Type 0 where
+  pub at_begin : begins i ≡ true
   pub pc : k.pc ≡ line_address q
-  pub next : k.next ≡ line_address (q + 1)
+  pub next : k.next ≡ line_address (suc q)
   pub slot : k.slot ≡ false
-  pub loaded : k.loaded ≡ 0
   pub text : k.text_end ≡ text_end
-  pub before : q ≤ m i
-  pub near : m i ≤ q + count_if (is_at writes_pair old i) 2
-  pub noops : (p : ℕ) → q ≤ p → p < m i → slice_get new p ≡ Some noop
-  pub used : k.used ≡ true → ReaderBefore m old i q
-  pub used_before : k.used_before ≡ true → is_at writes_pair old i ≡ true → q + 1 ≤ m i
-  pub small : line_address (m i) < 2 ^ 29
+  pub before : q ≤ e i
+  pub near : e i ≤ q + gap new (e i)
+  pub noops : (p : ℕ) → q ≤ p → p < e i → slice_get new p ≡ Some noop
+  pub within : Within k (scan nothing new q)
+  pub small : line_address (e i) < 2 ^ 29
 
--- it is at old line i, and nothing forbids that the line writes HI or LO
-pub record AtLine (m : ℕ → ℕ) (old new : List Line) (text_end i : ℕ) (k : Marks) : Type 0 where
-  pub comes : Comes m old new text_end i (m i) k
-  pub clear : is_at writes_pair old i ≡ true → (k.used || k.used_before) ≡ false
-
--- no no-op but those that were asked for stands between a reader and the writer that comes
-pub reader-far : (m : ℕ → ℕ) (old new : List Line) (i q : ℕ) → Arranged m old new → ReaderBefore m old i q →
-    is_at writes_pair old i ≡ true → q + 2 ≤ m i
-reader-far m old new i q arr r w =
-    let next : is_at writes_pair old (suc r.line) ≡ true = ap (λ n. is_at writes_pair old n) (sym r.just_before) ∙ w in
-    omega (arith, arr.read_next r.line r.reader next, ap m r.just_before, r.place)
-
-neither : (a b : Bool) → (a ≡ true → ⊥) → (b ≡ true → ⊥) → (a || b) ≡ false
-neither true b h g = absurd (h refl)
-neither false true h g = absurd (g refl)
-neither false false h g = refl
-
-clear-there :
-    (m : ℕ → ℕ) (old new : List Line) (text_end i : ℕ) (k : Marks) → Arranged m old new → Comes m old new text_end i (m i) k →
-    is_at writes_pair old i ≡ true → (k.used || k.used_before) ≡ false
-clear-there m old new text_end i k arr c w =
-    neither k.used k.used_before
-    (λ u. omega (arith, reader-far m old new i (m i) arr (c.used u) w))
-    (λ u. omega (arith, c.used_before u w))
-
--- it passes the no-ops before a line
+-- it passes the no-ops before a block
 pub passes :
-    (a : Addresses) (m : ℕ → ℕ) (old new : List Line) (text_end i d q : ℕ) (k : Marks) (s : State) →
-    Arranged m old new → Comes m old new text_end i q k → s.core.ending ≡ Running → m i ≡ q + d →
-    (marks : Marks) × AtLine m old new text_end i marks × (delayed_run a new d (marked k s) ≡ marked marks s)
-passes a m old new text_end i zero q k s arr c running e =
-    let same : q ≡ m i = omega (arith, e) in
-    let there : Comes m old new text_end i (m i) k = subst (λ n. Comes m old new text_end i n k) same c in
-    (k, record { comes = there; clear = clear-there m old new text_end i k arr there }, delayed_run-zero a new (marked k s))
-passes a m old new text_end i (suc d) q k s arr c running e =
-    let bound : q < m i = omega (arith, e) in
-    let onward : Comes m old new text_end i (q + 1) (noop_after k) = record {
+    (a : Addresses) (e : ℕ → ℕ) (begins : ℕ → Bool) (new : List Line) (text_end i d q : ℕ) (k : Marks) (s : State) →
+    Comes e begins new text_end i q k → s.core.ending ≡ Running → e i ≡ q + d →
+    (marks : Marks) × Comes e begins new text_end i (e i) marks × (delayed_run a new d (marked k s) ≡ marked marks s)
+passes a e begins new text_end i zero q k s c running h =
+    let same : q ≡ e i = omega (arith, h) in
+    (k, subst (λ n. Comes e begins new text_end i n k) same c, delayed_run-zero a new (marked k s))
+passes a e begins new text_end i (suc d) q k s c running h =
+    let bound : q < e i = omega (arith, h) in
+    let here : slice_get new q ≡ Some noop = c.noops q (omega arith) bound in
+    let onward : Comes e begins new text_end i (suc q) (noop_after k) = record {
+      at_begin = c.at_begin;
       pc = c.next;
       next = omega (arith, c.next, c.small, bound);
       slot = refl;
-      loaded = refl;
       text = c.text;
       before = omega (arith, bound);
       near = omega (arith, c.near);
       noops = λ p from to. c.noops p (omega (arith, from)) to;
-      used = λ u. absurd (let f : false ≡ true = u in cc);
-      used_before = λ u w. omega (arith, reader-far m old new i q arr (c.used u) w);
+      within = subst (λ (r : Recent). Within (noop_after k) r) (sym (scan-next nothing new q noop here)) (record {
+        used = λ u. absurd (let f : false ≡ true = u in cc);
+        used_before = c.within.used;
+        loaded = inl refl;
+      });
       small = c.small;
     } in
-    let (marks, at, run) = passes a m old new text_end i d (q + 1) (noop_after k) s arr onward running (omega (arith, e)) in (
+    let (marks, at, run) = passes a e begins new text_end i d (suc q) (noop_after k) s onward running (omega (arith, h)) in (
       marks,
       at,
       ap (λ n. delayed_run a new n (marked k s)) (omega arith)
           ∙ (delayed_run-sum a new 1 d (marked k s)
-          ∙ (ap (delayed_run a new d) (delayed_run-one a new (marked k s) ∙ noop-acts a new q k s running c.pc (c.noops q (omega arith) bound))
+          ∙ (ap (delayed_run a new d) (delayed_run-one a new (marked k s) ∙ noop-acts a new q k s running c.pc here)
           ∙ run)),
     )

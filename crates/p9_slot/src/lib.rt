@@ -2,6 +2,7 @@
 //! lines given do on the straight machine.
 #![tactic(auto)]
 
+mod blocks;
 mod placing;
 mod scheduling;
 
