@@ -1,0 +1,9 @@
+pub mod Counting
+pub mod Sizes
+pub mod Fuel
+pub mod Flags
+pub mod Derived
+pub mod Steps
+pub mod Going
+pub mod Sound
+pub mod Using

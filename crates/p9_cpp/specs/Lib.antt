@@ -1,0 +1,5 @@
+pub mod Lists
+pub mod Macros
+pub mod Expansion
+pub mod Derivation
+pub mod Reading
