@@ -7,3 +7,4 @@ pub mod Steps
 pub mod Going
 pub mod Sound
 pub mod Using
+pub mod Params

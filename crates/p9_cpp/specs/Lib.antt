@@ -3,3 +3,5 @@ pub mod Macros
 pub mod Expansion
 pub mod Derivation
 pub mod Reading
+pub mod Items
+pub mod Directives

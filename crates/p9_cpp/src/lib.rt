@@ -4,8 +4,10 @@
 mod arguments;
 mod body;
 mod brackets;
+mod directive;
 mod frame;
 mod hidden;
+mod items;
 mod laws;
 mod macros;
 mod pile;
@@ -14,4 +16,6 @@ mod row;
 mod uses;
 
 pub use laws::{expansion_is_exact, expansion_is_one};
+pub use directive::{directive_of, head_of};
+pub use items::items_of;
 pub use reader::expand;
