@@ -1,7 +1,9 @@
 -- Flags of hidden names, one for each place of the table.
-use Rattle.std.proofs.Common.{◌≡◌, ℕ, zero, suc, ◌<◌, ◌≤◌, Bool, true, false, cond, List, [], ◌∷◌, length, map, Option, Some, None, slice_get, slice_index_or, refl, sym, ap, subst, ◌∙◌, arith, true≢false}
+use Rattle.std.proofs.Common.{◌≡◌, ℕ, zero, suc, ◌<◌, ◌≤◌, Bool, true, false, cond, List, [], ◌∷◌, ◌++◌, length, map, Option, Some, None, slice_get, slice_index_or, refl, sym, ap, subst, ◌∙◌, arith, true≢false, not, is_some}
 use Rattle.std.specs.Str.{bytes_eq}
 use Rattle.std.specs.List.{IsDistinct, AllByRecursion}
+use Rattle.std.specs.Map.{lookup}
+use Rattle.indexmap.specs.IndexMap.{insert_entry}
 use Rattle.p9_cpp.specs.declared.macros.Macro.{Macro}
 use Rattle.p9_cpp.specs.Macros.{Table, is_among}
 use Rattle.p9_cpp.specs.Reading.{flag_at, with_flag, flags_of, IsApart}
@@ -82,3 +84,27 @@ flag_cleared (e ∷ es) hidden zero x o apart is new =
 flag_cleared (e ∷ es) hidden (suc i) x o apart is new =
     let here : bytes_eq e.0 x ≡ false = differs_at es e.0 x i o (apart_first e es apart) is in
     ap (λ b. cond b true (is_among hidden e.0) ∷ with_flag (flags_of es (x ∷ hidden)) i false) here ∙ ap (λ fs. is_among hidden e.0 ∷ fs) (flag_cleared es hidden i x o (apart_rest e es apart) is new)
+
+-- Flags where nothing is hidden, and a name is defined
+
+replaced_by : (c : Bool) (e : List ℕ × Option Macro) (es : Table) (x : List ℕ) (old : Option Macro) (new : Option Macro) → (lookup (bytes_eq x) es ≡ Some old → flags_of (insert_entry bytes_eq es x new) [] ≡ flags_of es []) → cond c (Some e.1) (lookup (bytes_eq x) es) ≡ Some old → flags_of (cond c ((e.0, new) ∷ es) (e ∷ insert_entry bytes_eq es x new)) [] ≡ flags_of (e ∷ es) []
+replaced_by true e es x old new later found = refl
+replaced_by false e es x old new later found = ap (λ fs. false ∷ fs) (later found)
+
+pub flags_replaced : (es : Table) (x : List ℕ) (old new : Option Macro) → lookup (bytes_eq x) es ≡ Some old → flags_of (insert_entry bytes_eq es x new) [] ≡ flags_of es []
+flags_replaced [] x old new found = absurd (cc)
+flags_replaced (e ∷ es) x old new found = replaced_by (bytes_eq x e.0) e es x old new (flags_replaced es x old new) found
+
+added_by : (c : Bool) (e : List ℕ × Option Macro) (es : Table) (x : List ℕ) (new : Option Macro) → (lookup (bytes_eq x) es ≡ None → flags_of (insert_entry bytes_eq es x new) [] ≡ flags_of es [] ++ false ∷ []) → cond c (Some e.1) (lookup (bytes_eq x) es) ≡ None → flags_of (cond c ((e.0, new) ∷ es) (e ∷ insert_entry bytes_eq es x new)) [] ≡ flags_of (e ∷ es) [] ++ false ∷ []
+added_by true e es x new later found = absurd (cc)
+added_by false e es x new later found = ap (λ fs. false ∷ fs) (later found)
+
+pub flags_added : (es : Table) (x : List ℕ) (new : Option Macro) → lookup (bytes_eq x) es ≡ None → flags_of (insert_entry bytes_eq es x new) [] ≡ flags_of es [] ++ false ∷ []
+flags_added [] x new found = refl
+flags_added (e ∷ es) x new found = added_by (bytes_eq x e.0) e es x new (flags_added es x new) found
+
+pub flags_defined : (es : Table) (x : List ℕ) (new : Option Macro) (before : Option (Option Macro)) (is_new : Bool) → before ≡ lookup (bytes_eq x) es → is_some before ≡ not is_new → cond is_new (flags_of es [] ++ false ∷ []) (flags_of es []) ≡ flags_of (insert_entry bytes_eq es x new) []
+flags_defined es x new None true is told = sym (flags_added es x new (sym is))
+flags_defined es x new None false is told = absurd (true≢false (sym told))
+flags_defined es x new (Some old) false is told = sym (flags_replaced es x old new (sym is))
+flags_defined es x new (Some old) true is told = absurd (true≢false told)

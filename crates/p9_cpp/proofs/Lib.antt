@@ -8,3 +8,6 @@ pub mod Going
 pub mod Sound
 pub mod Using
 pub mod Params
+pub mod Walking
+pub mod Complete
+pub mod Told

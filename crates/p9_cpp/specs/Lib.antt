@@ -5,3 +5,7 @@ pub mod Derivation
 pub mod Reading
 pub mod Items
 pub mod Directives
+pub mod Groups
+pub mod Headers
+pub mod Units
+pub mod Calls

@@ -21,18 +21,14 @@ fn push_copies(
     ensures { OnOk result (out.new ≡ out.old ++ all_at_line line tokens.now) }
 {
     let mut rest = tokens;
-    while let [t, after @ ..] = rest {
-        out.push(copied_at(alloc, t, line)?)?;
+    while let [token, after @ ..] = rest {
+        out.push(copied_at(alloc, token, line)?)?;
         rest = after;
     }
     Ok(())
 }
 
-fn argument_of<'a>(
-    params: &[Name],
-    args: &'a [Row<Token>],
-    name: &Name,
-) -> Option<&'a Row<Token>>
+fn argument_of<'a>(params: &[Name], args: &'a [Row<Token>], name: &Name) -> Option<&'a Row<Token>>
     ensures { MatchOption result (argument_of params.now args.now name.now ≡ None) (λ a. argument_of params.now args.now name.now ≡ Some a.now) }
 {
     let mut names = params;

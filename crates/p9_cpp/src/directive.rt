@@ -238,11 +238,7 @@ fn angled_end(line: Pile<Token>) -> Option<u32>
             return None;
         }
         if is_greater(&t.kind) {
-            return if line.is_empty() {
-                Some(t.start)
-            } else {
-                None
-            };
+            return if line.is_empty() { Some(t.start) } else { None };
         }
     }
     None
@@ -453,11 +449,7 @@ fn condition(wanted: bool, name: Option<Name>) -> Directive
 
 /// The directive of the tokens behind a `#`, in a file of these bytes.
 #[tactic(auto, unfolding(crate::specs::Directives::directive_of))]
-pub fn directive_of(
-    alloc: Global,
-    bytes: &[u8],
-    line: Pile<Token>,
-) -> Result<Directive, NoMemory>
+pub fn directive_of(alloc: Global, bytes: &[u8], line: Pile<Token>) -> Result<Directive, NoMemory>
     ensures { IfOk result (λ d. d ≡ directive_of bytes.now line) }
 {
     let mut line = line;

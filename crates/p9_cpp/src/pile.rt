@@ -1,6 +1,6 @@
 // Lists that are read from their beginning.
 ghost use Rattle.std.specs.Prelude.{◌≡◌, [], ◌∷◌, OnOk, MatchOption, length};
-ghost use Rattle.p9_cpp.specs.Lists.{is_empty};
+ghost use Rattle.p9_cpp.specs.Lists.{is_empty, IsFirst};
 
 use crate::row::Row;
 use p9_base::NoMemory;
@@ -55,6 +55,13 @@ impl<T> Pile<T> {
         ensures { MatchOption result ((self.old ≡ []) × (self.new ≡ [])) (λ x. self.old ≡ x ∷ self.new) }
     {
         self.items.pop()
+    }
+
+    /// The element that `pop` would give.
+    pub fn first(&self) -> Option<&T>
+        ensures { MatchOption result (self.now ≡ []) (λ x. IsFirst self.now x.now) }
+    {
+        self.items.as_slice().last()
     }
 
     pub fn len(&self) -> usize
