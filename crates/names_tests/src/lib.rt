@@ -5,3 +5,5 @@
 mod samples;
 #[cfg(test)]
 mod tests;
+#[cfg(test)]
+mod validity;

@@ -9,15 +9,17 @@ use p9_obj::{all_numbered, all_valid};
 use std::alloc::Global;
 use std::process::Abort;
 
-/// What a sample symbol stands for: a function that only returns or one that calls a symbol first,
-/// and data of these bytes.
+/// What a sample symbol stands for: a function that only returns, one that calls a symbol first, or
+/// one that takes a symbol's address; data of these bytes, or of a symbol's address.
 #[derive(Clone, Copy)]
 pub(crate) enum Kind<'a> {
     Declared,
     Used,
     Returns,
     Calls(u32),
+    Takes(u32),
     Data(&'a [u8]),
+    Points(u32),
     Common(u32),
 }
 
@@ -60,16 +62,26 @@ fn add(alloc: Global, code: &mut Vec<Abs>, op: Op, operands: &[Operand]) -> Resu
     Ok(())
 }
 
-fn function(alloc: Global, called: Option<u32>) -> Result<Body, NoMemory> {
+/// A function of this instruction and RET.
+pub(crate) fn function(
+    alloc: Global,
+    frame: u32,
+    op: Op,
+    operands: &[Operand],
+) -> Result<Body, NoMemory> {
     let mut list = Vec::new(alloc);
-    if let Some(symbol) = called {
-        add(alloc, &mut list, Op::Jal, &[Operand::Func(symbol)])?;
-    }
+    add(alloc, &mut list, op, operands)?;
     add(alloc, &mut list, Op::Ret, &[])?;
     Ok(Body::Text(TextDef {
-        frame: 0,
+        frame,
         code: Code { list },
     }))
+}
+
+fn pointer(alloc: Global, symbol: u32) -> Result<Body, NoMemory> {
+    let mut list = Vec::new(alloc);
+    list.push(DataPiece::Address { symbol, offset: 0 })?;
+    Ok(Body::Data(Pieces { list }))
 }
 
 fn raw(alloc: Global, list: &[u8]) -> Result<Body, NoMemory> {
@@ -83,9 +95,14 @@ fn body(alloc: Global, kind: Kind) -> Result<Body, NoMemory> {
     match kind {
         Kind::Declared => Ok(Body::Declared),
         Kind::Used => Ok(Body::Used),
-        Kind::Returns => function(alloc, None),
-        Kind::Calls(symbol) => function(alloc, Some(symbol)),
+        Kind::Returns => function(alloc, 0, Op::Ret, &[]),
+        Kind::Calls(symbol) => function(alloc, 0, Op::Jal, &[Operand::Func(symbol)]),
+        Kind::Takes(symbol) => {
+            let operands = [Operand::AddrSB(symbol, 0), Operand::Reg(1)];
+            function(alloc, 0, Op::MovW, &operands)
+        }
         Kind::Data(list) => raw(alloc, list),
+        Kind::Points(symbol) => pointer(alloc, symbol),
         Kind::Common(size) => Ok(Body::Common(size)),
     }
 }
@@ -107,6 +124,15 @@ pub(crate) fn module(alloc: Global, samples: &[Sample]) -> Result<AModule, NoMem
     for sample in samples {
         list.push(symbol(alloc, sample, false)?)?;
     }
+    Ok(AModule {
+        symbols: Symbols { list },
+    })
+}
+
+/// A module of one symbol.
+pub(crate) fn alone(symbol: Symbol, alloc: Global) -> Result<AModule, NoMemory> {
+    let mut list = Vec::new(alloc);
+    list.push(symbol)?;
     Ok(AModule {
         symbols: Symbols { list },
     })

@@ -81,6 +81,16 @@ fn declared_and_called(rt: HostRuntime) -> Result<(), Fail> {
 }
 
 #[test]
+fn declared_and_named_by_an_address(rt: HostRuntime) -> Result<(), Fail> {
+    for user in [Kind::Takes(1), Kind::Points(1)] {
+        let first = [global(b"g", b"", user), global(b"x", b"i", Kind::Declared)];
+        let modules = two(rt.alloc(), &[main()], &first)?;
+        refused(&rt, rt.alloc(), &modules, Cause::Unresolved, b"x", 1, 0);
+    }
+    Ok(())
+}
+
+#[test]
 fn main_is_missing(rt: HostRuntime) -> Result<(), Fail> {
     let modules = two(rt.alloc(), &[common(b"x", 4)], &[])?;
     refused(&rt, rt.alloc(), &modules, Cause::NoMain, b"", 0, 0);
@@ -95,7 +105,49 @@ fn main_of_another_type(rt: HostRuntime) -> Result<(), Fail> {
     Ok(())
 }
 
+#[test]
+fn main_with_arguments(rt: HostRuntime) -> Result<(), Fail> {
+    let first = [global(b"main", b"(i;**c;)v", Kind::Returns)];
+    let modules = two(rt.alloc(), &first, &[])?;
+    let table = joined(&rt, rt.alloc(), &modules)?;
+    assert_eq!(rt; table.defs.len(), 4);
+    Ok(())
+}
+
+#[test]
+fn main_as_data(rt: HostRuntime) -> Result<(), Fail> {
+    let modules = two(rt.alloc(), &[], &[data(b"main", b"four")])?;
+    refused(&rt, rt.alloc(), &modules, Cause::MainType, b"", 1, 0);
+    Ok(())
+}
+
+// The least second module counts, there the first symbol, and then the least first module.
+#[test]
+fn least_fields(rt: HostRuntime) -> Result<(), Fail> {
+    let alloc = rt.alloc();
+    let mut modules = two(
+        alloc,
+        &[main(), data(b"x", b"four")],
+        &[data(b"y", b"four")],
+    )?;
+    let third = [data(b"y", b"four"), data(b"x", b"four")];
+    modules.push(module(alloc, &third)?)?;
+    refused(&rt, alloc, &modules, Cause::Twice, b"y", 1, 2);
+    let mut modules = two(alloc, &[main(), common(b"x", 4)], &[common(b"x", 4)])?;
+    modules.push(module(alloc, &[common(b"x", 8)])?)?;
+    refused(&rt, alloc, &modules, Cause::Disagree, b"x", 0, 2);
+    Ok(())
+}
+
 // The built-in module is module 2 here.
+#[test]
+fn exits_of_another_type(rt: HostRuntime) -> Result<(), Fail> {
+    let second = [global(b"exits", b"(i;)v", Kind::Used)];
+    let modules = two(rt.alloc(), &[main()], &second)?;
+    refused(&rt, rt.alloc(), &modules, Cause::Disagree, b"exits", 1, 2);
+    Ok(())
+}
+
 #[test]
 fn own_read(rt: HostRuntime) -> Result<(), Fail> {
     let first = [global(b"read", b"(i;*v;l;)l", Kind::Returns)];

@@ -1,3 +1,15 @@
 pub mod Forms
 pub mod Modules
+pub mod Names
+pub mod BuiltIn
 pub mod Validity
+pub mod Steps
+pub mod Automatics
+pub mod Regions
+pub mod Runs
+pub mod OneCall
+pub mod Framed
+pub mod Keeping
+pub mod Programs
+pub mod Laws
+pub mod Examples

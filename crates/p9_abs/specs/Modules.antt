@@ -1,5 +1,5 @@
 -- The symbols of a module: what each stands for, how large it is, and which symbols its body names.
-use Rattle.std.specs.Prelude.{ℕ, ◌+◌, Bool, true, false, List, [], Option, Some, None, length, sum_by, flat_map}
+use Rattle.std.specs.Prelude.{ℕ, ◌+◌, ◌*◌, ◌/◌, Bool, true, false, List, [], Option, Some, None, length, sum_by, flat_map, unwrap_or}
 use Rattle.p9_abs.specs.declared.instructions.Operand.{Operand}
 use Rattle.p9_abs.specs.declared.instructions.Operand.TheVariants.{AddrSB, MemSB, Func}
 use Rattle.p9_abs.specs.declared.modules.DataPiece.{DataPiece}
@@ -47,6 +47,24 @@ is_definition Used = false
 is_definition (Text _) = true
 is_definition (Data _) = true
 is_definition (Common _) = true
+
+abbrev pub is_text : Body → Bool
+is_text (Text _) = true
+is_text _ = false
+
+-- text and data are full definitions, which stand before common ones
+abbrev pub is_full : Body → Bool
+is_full (Text _) = true
+is_full (Data _) = true
+is_full _ = false
+
+-- a size rounded up to a multiple of 4
+abbrev pub rounded : ℕ → ℕ
+rounded size = (size + 3) / 4 * 4
+
+-- the bytes of a module's data and common objects, each rounded up
+abbrev pub data_size : List Symbol → ℕ
+data_size symbols = sum_by (λ s. rounded (unwrap_or (size_of s.body) 0)) symbols
 
 -- the symbol that an operand names
 abbrev pub named_by_operand : Operand → Option ℕ

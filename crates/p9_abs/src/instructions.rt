@@ -62,18 +62,6 @@ pub enum Operand {
     AutoAddr(u32, u32),
 }
 
-/// What the table of forms knows of an operand.
-#[derive(Clone, Copy, Debug, PartialEq, Eq)]
-pub enum Shape {
-    Register,
-    Constant,
-    Address,
-    Memory,
-    Half,
-    Target,
-    Function,
-}
-
 /// The operands of an instruction.
 #[derive(Drop)]
 pub struct Operands {

@@ -65,3 +65,10 @@ impl Model for Symbols {
 pub struct AModule {
     pub symbols: Symbols,
 }
+
+/// A symbol of several modules: its module's number, and its own among that module's symbols.
+#[derive(Clone, Copy, Debug, PartialEq, Eq)]
+pub struct Def {
+    pub module: u32,
+    pub symbol: u32,
+}

@@ -1,83 +1,32 @@
 // What an instruction weighs, in machine words.
 ghost use Rattle.std.specs.Prelude.{◌≡◌, IsSome, unwrap_or, map, length};
-ghost use Rattle.p9_abs.specs.Forms.{shape_of, word_move, signed_move, unsigned_move, arithmetic, IsForm, weight_of};
+ghost use Rattle.p9_abs.specs.Forms.{move_words, words_of, IsForm, weight_of};
 
-use crate::instructions::{Abs, Op, Operand, Shape};
+use crate::forms::{Form, Width, decoded};
+use crate::instructions::Abs;
 
-/// What the table of forms knows of an operand.
-pub fn shape_of(operand: Operand) -> Shape
-    ensures { result ≡ shape_of operand }
+fn move_words(width: Width) -> u32
+    ensures { result ≡ move_words width }
 {
-    match operand {
-        Operand::Reg(_) => Shape::Register,
-        Operand::Const(_) => Shape::Constant,
-        Operand::AddrSB(_, _) | Operand::AddrFP(_) | Operand::AddrSP(_) | Operand::AutoAddr(_, _) =>
-            Shape::Address,
-        Operand::MemSB(_, _)
-        | Operand::MemFP(_)
-        | Operand::MemSP(_)
-        | Operand::MemReg(_, _)
-        | Operand::Auto(_, _) => Shape::Memory,
-        Operand::Label(_) => Shape::Target,
-        Operand::Func(_) => Shape::Function,
-        Operand::Hi | Operand::Lo => Shape::Half,
+    match width {
+        Width::SignedHalf | Width::SignedByte => 2,
+        Width::Word | Width::UnsignedHalf | Width::UnsignedByte => 1,
     }
 }
 
-fn word_move_weight(operands: &[Operand]) -> u32
-    requires { IsSome (word_move (map shape_of operands.now)) }
-    ensures { result ≡ unwrap_or (word_move (map shape_of operands.now)) 0 }
+/// The words of a form.
+pub fn words_of(form: Form) -> u32
+    ensures { result ≡ words_of form }
 {
-    match operands {
-        [from, to] => match (shape_of(*from), shape_of(*to)) {
-            (Shape::Register, Shape::Register) => 1,
-            (Shape::Constant, _) => 2,
-            (Shape::Address, _) => 3,
-            (Shape::Memory, _) => 4,
-            (Shape::Half, _) => 1,
-            _ => 3,
-        },
-        _ => 0,
-    }
-}
-
-fn signed_move_weight(operands: &[Operand]) -> u32
-    requires { IsSome (signed_move (map shape_of operands.now)) }
-    ensures { result ≡ unwrap_or (signed_move (map shape_of operands.now)) 0 }
-{
-    match operands {
-        [from, to] => match (shape_of(*from), shape_of(*to)) {
-            (Shape::Register, Shape::Register) => 2,
-            (Shape::Register, _) => 3,
-            _ => 4,
-        },
-        _ => 0,
-    }
-}
-
-fn unsigned_move_weight(operands: &[Operand]) -> u32
-    requires { IsSome (unsigned_move (map shape_of operands.now)) }
-    ensures { result ≡ unwrap_or (unsigned_move (map shape_of operands.now)) 0 }
-{
-    match operands {
-        [from, _] => match shape_of(*from) {
-            Shape::Register => 1,
-            _ => 4,
-        },
-        _ => 0,
-    }
-}
-
-fn arithmetic_weight(operands: &[Operand]) -> u32
-    requires { IsSome (arithmetic (map shape_of operands.now)) }
-    ensures { result ≡ unwrap_or (arithmetic (map shape_of operands.now)) 0 }
-{
-    match operands {
-        [first, _, _] => match shape_of(*first) {
-            Shape::Register => 1,
-            _ => 3,
-        },
-        _ => 0,
+    match form {
+        Form::Move(width, _, _) => move_words(width),
+        Form::GetHiLo(_, _) | Form::SystemCall => 1,
+        Form::Calculate(_, _, _, _) | Form::ShiftConstant(_, _, _, _) => 1,
+        Form::SetConstant(_, _) | Form::Jump(_) | Form::Call(_) | Form::CallRegister(_) => 2,
+        Form::SetAddress(_, _) | Form::Store(_, _, _) | Form::SetHiLo(_, _) => 3,
+        Form::CalculateConstant(_, _, _, _) | Form::Multiply(_, _, _) => 3,
+        Form::Load(_, _, _) | Form::BranchPair(_, _, _, _) | Form::BranchSign(_, _, _) => 4,
+        Form::Return => 7,
     }
 }
 
@@ -86,26 +35,8 @@ pub fn weight(a: &Abs) -> u32
     requires { IsForm a.now }
     ensures { result ≡ weight_of a.now }
 {
-    let operands = a.operands.list.as_slice();
-    match a.op {
-        Op::MovW => word_move_weight(operands),
-        Op::MovH | Op::MovB => signed_move_weight(operands),
-        Op::MovHU | Op::MovBU => unsigned_move_weight(operands),
-        Op::Add
-        | Op::AddU
-        | Op::Sub
-        | Op::SubU
-        | Op::And
-        | Op::Or
-        | Op::Xor
-        | Op::Nor
-        | Op::Sgt
-        | Op::SgtU => arithmetic_weight(operands),
-        Op::Sll | Op::Srl | Op::Sra => 1,
-        Op::Mul | Op::MulU | Op::Div | Op::DivU => 3,
-        Op::Beq | Op::Bne | Op::Bgez | Op::Bgtz | Op::Blez | Op::Bltz => 4,
-        Op::Jmp | Op::Jal => 2,
-        Op::Ret => 7,
-        Op::Syscall => 1,
+    match decoded(a) {
+        Some(form) => words_of(form),
+        None => 0,
     }
 }

@@ -1,18 +1,18 @@
 -- What the module of a file of the form declares: each variable and `main` once, with its type.
 use Rattle.std.proofs.Common.{◌≡◌, ℕ, ◌+◌, Bool, true, false, if◌then◌else◌, List, [], ◌∷◌, ◌++◌, map, Some, None, Option, refl, sym, ap, ◌∙◌, subst, append-nil, codes}
-use Rattle.p9_lang.specs.Types.{TypeTree, Int, Long}
-use Rattle.p9_lang.specs.Trees.{none, SyntaxRow, nodes_of}
-use Rattle.p9_lang.specs.Form.{same_name, is_among, is_variable_name, IsFile}
-use Rattle.p9_lang.specs.Typing.{Scope, texts_in, system_scope, scope_after}
-use Rattle.p9_lang.specs.Modules.{Declaration as Declared, Way, Only, Tentative, Initial, Body, declarations as declared_by, declarations_in, declarations_of, system_names}
-use Rattle.p9_lang.proofs.Labels.{typed_item, typed_items, source_items}
+use Rattle.p9_first.specs.Types.{TypeTree, Int, Long}
+use Rattle.p9_first.specs.Trees.{none, SyntaxRow, nodes_of}
+use Rattle.p9_first.specs.Form.{same_name, is_among, is_variable_name, IsFile}
+use Rattle.p9_first.specs.Typing.{Scope, texts_in, system_scope, scope_after}
+use Rattle.p9_first.specs.Modules.{Declaration as Declared, Way, Only, Tentative, Initial, Body, declarations as declared_by, declarations_in, declarations_of, system_names}
+use Rattle.p9_first.proofs.Labels.{typed_item, typed_items, source_items}
 use Rattle.p9_form.specs.declared.file.Statement.{Statement}
 use Rattle.p9_form.specs.declared.file.First.{First}
 use Rattle.p9_form.specs.declared.file.First.TheVariants as first
 use Rattle.p9_form.specs.declared.file.Declaration.{Declaration}
 use Rattle.p9_form.specs.declared.file.File.{File}
 use Rattle.p9_form.specs.Items.{declaration_tree, declaration_trees, declaration_size, declarations_size, main_tree, main_trees, main_size, items_of, source_of}
-use Rattle.p9_cmean.specs.Joins.{Role, Declares, DefinesCode, DefinesData, DefinesCommon, Occurrence, main_type}
+use Rattle.p9_first.specs.Joins.{Role, Declares, DefinesCode, DefinesData, DefinesCommon, Occurrence, main_type}
 use Rattle.p9_straight.proofs.SourceLists.{Each, each_weaker, each_both, bool_cases, neither, neither_left, neither_right, same_is, same_self, true_not}
 use Rattle.p9_straight.proofs.SourceForm.{AreNew, names_behind, FileForm}
 use Rattle.p9_straight.proofs.SourceSymbols.{differs}

@@ -4,10 +4,10 @@ use Rattle.std.proofs.Common.{◌≡◌, ◌≤◌, ℕ, zero, suc, ◌+◌, tru
 use Rattle.std.proofs.lemmas.Bool.Decides.{nat_tests}
 use Rattle.std.specs.Prelude.{codes, flat_map, slice_get, Contains}
 use Rattle.std.specs.List.{list_any}
-use Rattle.p9_lang.specs.Form.{same_name, is_variable_name, IsFile}
-use Rattle.p9_lang.specs.Typing.{Has, named as named_in}
-use Rattle.p9_lang.specs.Types.{Outer}
-use Rattle.p9_lang.specs.Modules.{Source, Typed, judged_type}
+use Rattle.p9_first.specs.Form.{same_name, is_variable_name, IsFile}
+use Rattle.p9_first.specs.Typing.{Has, named as named_in}
+use Rattle.p9_first.specs.Types.{Outer}
+use Rattle.p9_first.specs.Modules.{Source, Typed, judged_type}
 use Rattle.p9_form.specs.declared.file.Operand.{Operand}
 use Rattle.p9_form.specs.declared.file.Operand.TheVariants.{Variable, Number}
 use Rattle.p9_form.specs.declared.file.Statement.{Statement}
@@ -15,11 +15,11 @@ use Rattle.p9_form.specs.declared.file.Statement.TheVariants.{Assign, Write, Exi
 use Rattle.p9_form.specs.declared.file.File.{File}
 use Rattle.p9_form.specs.Items.{items_of, source_of}
 use Rattle.p9_form.specs.Sharing.{named_by, named_if, names_in, initials, tentatives, defined_names, mains, AreJoined, IsSmall}
-use Rattle.p9_cmean.specs.Turns.{Outcome, Ended, Out, Undefined, Deep, Over, End, resolve, calls_to}
-use Rattle.p9_cmean.specs.Union.{is_shared_of, entries, Defined, first_objects, base_need, definition, is_shared_common, is_shared_data}
-use Rattle.p9_cmean.specs.Statements.{item_body}
-use Rattle.p9_cmean.specs.CRun.{surroundings, body_of, function_need, functions_of, main_name, main_call, first_state, run_of, outcome_of, source_run}
-use Rattle.p9_cmean.proofs.Runs.{source_run_is}
+use Rattle.p9_first.specs.Turns.{Outcome, Ended, Out, Undefined, Deep, Over, End, resolve, calls_to}
+use Rattle.p9_first.specs.Union.{is_shared_of, entries, Defined, first_objects, base_need, definition, is_shared_common, is_shared_data}
+use Rattle.p9_first.specs.Statements.{item_body}
+use Rattle.p9_first.specs.CRun.{surroundings, body_of, function_need, functions_of, main_name, main_call, first_state, run_of, outcome_of, source_run}
+use Rattle.p9_first.proofs.Runs.{source_run_is}
 use Rattle.p9_straight.specs.Code.{main_of, first_of}
 use Rattle.p9_straight.specs.FormRun.{Came, initial_of, statements_run, form_run}
 use Rattle.p9_straight.proofs.SourceLists.{Each, each_both, each_from_all, each_left, each_right, first_true, or_true, any_either, any_map, any_contained, each_weaker}
@@ -29,7 +29,7 @@ use Rattle.p9_straight.proofs.SourceTyped.{each_among, texts_by, text_list}
 use Rattle.p9_straight.proofs.SourceEntries.{Sound}
 use Rattle.p9_straight.proofs.SourceUnion.{AreFiles, all_sound, all_data, all_common, HasMain, has_main, small_values, first_values}
 use Rattle.p9_straight.proofs.SourceObjects.{variable_dotless, number_of, static_of, IsFirst, is_given, first_holder, variable_pointer, function_is, variables_apart, text_at, first_text, text_apart}
-use Rattle.p9_cmean.proofs.Variables.{IsVariableType}
+use Rattle.p9_first.proofs.Variables.{IsVariableType}
 use Rattle.p9_agree.specs.Depth.{IsNotDeep, Reaches, FormIsNeverDeep, FormComes}
 use Rattle.p9_agree.proofs.Reached.{statements_reach}
 use Rattle.p9_agree.proofs.Weights.{functions_need}

@@ -1,7 +1,7 @@
 -- When files fit together, in the terms of the files alone: both notions of joining come to it.
 use Rattle.std.proofs.Common.{◌≡◌, ◌<◌, ℕ, Bool, true, false, List, Some, refl, sym, ap, ◌∙◌}
 use Rattle.std.specs.Prelude.{slice_get}
-use Rattle.p9_lang.specs.Form.{is_among, functions}
+use Rattle.p9_first.specs.Form.{is_among, functions}
 use Rattle.p9_form.specs.declared.file.Statement.{Statement}
 use Rattle.p9_form.specs.declared.file.First.{First}
 use Rattle.p9_form.specs.declared.file.First.TheVariants as first

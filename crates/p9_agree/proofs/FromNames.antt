@@ -4,7 +4,7 @@ use Rattle.std.specs.Prelude.{slice_get}
 use Rattle.p9_abs.specs.declared.modules.Symbol.{Symbol}
 use Rattle.p9_abs.specs.declared.modules.Body.TheVariants.{Used}
 use Rattle.p9_abs.specs.Modules.{size_of, is_definition}
-use Rattle.p9_lang.specs.Form.{same_name, is_among, functions, IsFile}
+use Rattle.p9_first.specs.Form.{same_name, is_among, functions, IsFile}
 use Rattle.p9_form.specs.declared.file.Statement.{Statement}
 use Rattle.p9_form.specs.declared.file.First.{First}
 use Rattle.p9_form.specs.declared.file.First.TheVariants as first
@@ -15,9 +15,11 @@ use Rattle.p9_form.specs.Sharing.{declarations}
 use Rattle.p9_form.proofs.Formed.{file_fits}
 use Rattle.p9_names.specs.declared.rules.Rule.{Rule}
 use Rattle.p9_names.specs.declared.rules.Rule.TheVariants.{Once, Agreement}
-use Rattle.p9_names.specs.Linking.{Occurs, IsKept, is_use}
+use Rattle.p9_abs.specs.Names.{Occurs}
+use Rattle.p9_names.specs.Linking.{IsKept, is_use}
 use Rattle.p9_names.specs.Rules.{breaks, clash, signatures_differ, sizes_differ}
-use Rattle.p9_names.specs.Answers.{linked, Joins}
+use Rattle.p9_abs.specs.BuiltIn.{linked}
+use Rattle.p9_names.specs.Answers.{Joins}
 use Rattle.p9_share.specs.Symbols.{module_of, symbols_of, signature_of, body_of, variable_symbol, main_symbol, used_names}
 use Rattle.p9_share.proofs.Within.{Within, all_within}
 use Rattle.p9_share.proofs.Joined.{place_of, module_at, occurs_there, variable_there, main_there, Origin, OfSystem, OfVariable, OfMain, origin_of, From, OfFile, OfBuiltIn, symbol_from, builtin_names, variables_of, used_defines}

@@ -1,8 +1,8 @@
 -- Files whose C modules join fit together.
 use Rattle.std.proofs.Common.{◌≡◌, ◌<◌, ℕ, Bool, true, false, not, List, map, Some, All, refl, sym, ap, ◌∙◌, codes}
 use Rattle.std.specs.Prelude.{slice_get}
-use Rattle.p9_lang.specs.Types.{Int, Long}
-use Rattle.p9_lang.specs.Form.{is_among, functions, IsFile}
+use Rattle.p9_first.specs.Types.{Int, Long}
+use Rattle.p9_first.specs.Form.{is_among, functions, IsFile}
 use Rattle.p9_form.specs.declared.file.Statement.{Statement}
 use Rattle.p9_form.specs.declared.file.First.{First}
 use Rattle.p9_form.specs.declared.file.First.TheVariants as first
@@ -12,7 +12,7 @@ use Rattle.p9_form.specs.Items.{items_of, source_of}
 use Rattle.p9_form.specs.Sharing.{declarations}
 use Rattle.p9_share.specs.Symbols.{used_names}
 use Rattle.p9_share.proofs.Within.{Within, all_within}
-use Rattle.p9_cmean.specs.Joins.{Role, Declares, Uses, DefinesCode, DefinesData, DefinesCommon, Occurrence, defines, may_meet, Join}
+use Rattle.p9_first.specs.Joins.{Role, Declares, Uses, DefinesCode, DefinesData, DefinesCommon, Occurrence, defines, may_meet, Join}
 use Rattle.p9_agree.proofs.Declared.{number_type, first_role, main_brief}
 use Rattle.p9_agree.proofs.Seen.{shown, variable_seen, IsMereRole, Seen, SeenSystem, SeenVariable, SeenMain, seen_of, variable_seen_there, main_seen_there}
 use Rattle.p9_agree.proofs.Fit.{defines_first, both_numbers, AreAlike, HasMainAt, HasDefinition, Fit, true_false, false_true}

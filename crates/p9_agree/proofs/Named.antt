@@ -4,17 +4,16 @@ use Rattle.std.specs.Prelude.{slice_get}
 use Rattle.std.specs.List.{list_any}
 use Rattle.p9_abs.specs.declared.modules.Symbol.{Symbol}
 use Rattle.p9_abs.specs.declared.modules.Body.TheVariants.{Used}
-use Rattle.p9_lang.specs.Form.{same_name}
-use Rattle.p9_lang.specs.Modules.{system_names}
+use Rattle.p9_first.specs.Form.{same_name}
+use Rattle.p9_first.specs.Modules.{system_names}
 use Rattle.p9_form.specs.declared.file.Statement.{Statement}
 use Rattle.p9_form.specs.declared.file.Declaration.{Declaration}
 use Rattle.p9_form.specs.declared.file.File.{File}
 use Rattle.p9_form.specs.Sharing.{declarations, statements}
-use Rattle.p9_names.specs.declared.table.Def.{Def}
-use Rattle.p9_names.specs.BuiltIn.{builtin_symbols, used_main}
-use Rattle.p9_names.specs.Linking.{symbol_at}
-use Rattle.p9_names.specs.Rules.{is_text}
-use Rattle.p9_names.specs.Answers.{linked}
+use Rattle.p9_abs.specs.declared.modules.Def.{Def}
+use Rattle.p9_abs.specs.BuiltIn.{builtin_symbols, used_main, linked}
+use Rattle.p9_abs.specs.Names.{symbol_at}
+use Rattle.p9_abs.specs.Modules.{is_text}
 use Rattle.p9_share.specs.Symbols.{global, is_exits, is_write, used_if, system_symbols, module_of, symbols_of, variable_symbol, main_symbol, main_symbols, used_names}
 use Rattle.p9_share.proofs.Within.{Within, within_left, within_right, from_map, within_append, within_step, within_none}
 use Rattle.p9_share.proofs.Joined.{place_of}

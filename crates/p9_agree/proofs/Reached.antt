@@ -4,29 +4,29 @@ use Rattle.std.proofs.Common.{◌≡◌, ◌≢◌, ◌<◌, ◌≤◌, ℕ, zer
 use Rattle.std.proofs.lemmas.Bool.Decides.{nat_tests}
 use Rattle.std.specs.Prelude.{slice_get, slice_set, codes}
 use Rattle.p9_base.specs.Words.{word_sum, is_negative}
-use Rattle.p9_lang.specs.Types.{TypeTree, Int, Long, Char, Array, Static}
-use Rattle.p9_lang.specs.Trees.{node, Syntax, nodes_of, nodes_of_row}
-use Rattle.p9_lang.specs.Form.{same_name}
-use Rattle.p9_lang.specs.Typing.{Has, Scope, named, texts_in, judged, typeless, exits_type, transfer_type}
-use Rattle.p9_lang.specs.Modules.{Source, Label, TypedRow, judged_type, judged_meaning}
-use Rattle.p9_lang.proofs.Labels.{judged_label, typed_expression, typed_statement, typed_statements}
+use Rattle.p9_first.specs.Types.{TypeTree, Int, Long, Char, Array, Static}
+use Rattle.p9_first.specs.Trees.{node, Syntax, nodes_of, nodes_of_row}
+use Rattle.p9_first.specs.Form.{same_name}
+use Rattle.p9_first.specs.Typing.{Has, Scope, named, texts_in, judged, typeless, exits_type, transfer_type}
+use Rattle.p9_first.specs.Modules.{Source, Label, TypedRow, judged_type, judged_meaning}
+use Rattle.p9_first.proofs.Labels.{judged_label, typed_expression, typed_statement, typed_statements}
 use Rattle.p9_form.specs.declared.file.Operand.{Operand}
 use Rattle.p9_form.specs.declared.file.Operand.TheVariants.{Variable, Number}
 use Rattle.p9_form.specs.declared.file.Statement.{Statement}
 use Rattle.p9_form.specs.declared.file.Statement.TheVariants.{Assign, Write, Exits}
 use Rattle.p9_form.specs.Items.{number_leaf, text_leaf, operand_tree, sum_tree, effect_tree, statement_tree, statement_trees, statement_size}
-use Rattle.p9_cmean.specs.declared.Place.{Place}
-use Rattle.p9_cmean.specs.Cells.{Global, Into, Null, Object, Value, Word, Address, State, ToFunction}
-use Rattle.p9_cmean.specs.Plays.{Call, Done, bind, Normal, then_go, Flow, Play}
-use Rattle.p9_cmean.specs.Turns.{Outcome, Deep, Gave, Over, End, and_then, resolve, calls_to}
-use Rattle.p9_cmean.specs.Access.{number_cells}
-use Rattle.p9_cmean.specs.SystemCalls.{system_body, written}
-use Rattle.p9_cmean.specs.Expressions.{Surroundings, at, pointer_of, outer_pointer, value}
-use Rattle.p9_cmean.specs.Statements.{statement, statements, given}
-use Rattle.p9_cmean.specs.CRun.{functions_of, outcome_of}
-use Rattle.p9_cmean.proofs.Variables.{Holds, IsVariableType}
-use Rattle.p9_cmean.proofs.FormPlays.{StandsFor, Calls, IsTextAt, variable_value, sum_value as sum_plays, assign_play, write_play, exits_play, exits_zero_play, asks}
-use Rattle.p9_cmean.proofs.FormCalls.{text_object, written_text, written_past, exits_text, write_ends, exits_ends}
+use Rattle.p9_first.specs.declared.Place.{Place}
+use Rattle.p9_first.specs.Cells.{Global, Into, Null, Object, Value, Word, Address, State, ToFunction}
+use Rattle.p9_first.specs.Plays.{Call, Done, bind, Normal, then_go, Flow, Play}
+use Rattle.p9_first.specs.Turns.{Outcome, Deep, Gave, Over, End, and_then, resolve, calls_to}
+use Rattle.p9_first.specs.Access.{number_cells}
+use Rattle.p9_first.specs.SystemCalls.{system_body, written}
+use Rattle.p9_first.specs.Expressions.{Surroundings, at, pointer_of, outer_pointer, value}
+use Rattle.p9_first.specs.Statements.{statement, statements, given}
+use Rattle.p9_first.specs.CRun.{functions_of, outcome_of}
+use Rattle.p9_first.proofs.Variables.{Holds, IsVariableType}
+use Rattle.p9_first.proofs.FormPlays.{StandsFor, Calls, IsTextAt, variable_value, sum_value as sum_plays, assign_play, write_play, exits_play, exits_zero_play, asks}
+use Rattle.p9_first.proofs.FormCalls.{text_object, written_text, written_past, exits_text, write_ends, exits_ends}
 use Rattle.p9_straight.specs.FormRun.{Values, Came, Ends, RunsOut, Fails, operand_value, sum_value, assigned, after_write, statements_run}
 use Rattle.p9_straight.proofs.SourceRun.{Setting, Shows, FineOperand, FineIf, Fine, AreFine, HasText, HaveTexts, statement_texts}
 use Rattle.p9_agree.specs.Depth.{Reaches}

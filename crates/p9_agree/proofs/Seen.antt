@@ -1,8 +1,8 @@
 -- How names occur in the C module of a file of the form: system calls, variables, and `main`.
 use Rattle.std.proofs.Common.{◌≡◌, ◌⊎◌, inl, inr, ℕ, Bool, true, false, not, if◌then◌else◌, List, [], ◌∷◌, ◌++◌, map, filter, Some, None, Option, Contains, refl, sym, ap, ◌∙◌, subst, codes}
-use Rattle.p9_lang.specs.Types.{TypeTree}
-use Rattle.p9_lang.specs.Form.{same_name, is_among, is_variable_name, IsFile}
-use Rattle.p9_lang.specs.Modules.{Declaration as Declared, Way, Only, Tentative, Initial, Body, declarations_of, Symbol, kind_of, system_names, system_type, first_type, symbol_of, symbol_names, new_names, declared_names, uses_in_row, texts_of_row, text_symbol, symbols}
+use Rattle.p9_first.specs.Types.{TypeTree}
+use Rattle.p9_first.specs.Form.{same_name, is_among, is_variable_name, IsFile}
+use Rattle.p9_first.specs.Modules.{Declaration as Declared, Way, Only, Tentative, Initial, Body, declarations_of, Symbol, kind_of, system_names, system_type, first_type, symbol_of, symbol_names, new_names, declared_names, uses_in_row, texts_of_row, text_symbol, symbols}
 use Rattle.p9_form.specs.declared.file.Statement.{Statement}
 use Rattle.p9_form.specs.declared.file.Declaration.{Declaration}
 use Rattle.p9_form.specs.declared.file.File.{File}
@@ -10,7 +10,7 @@ use Rattle.p9_form.specs.Items.{items_of, source_of}
 use Rattle.p9_form.specs.Sharing.{declarations, statements}
 use Rattle.p9_share.specs.Symbols.{used_names}
 use Rattle.p9_share.proofs.Within.{Within, within_left, within_right, within_map, from_map, within_append, within_step, within_none, within_next, get_at}
-use Rattle.p9_cmean.specs.Joins.{Role, Declares, Uses, Occurrence, occurrence, role_of, shared}
+use Rattle.p9_first.specs.Joins.{Role, Declares, Uses, Occurrence, occurrence, role_of, shared}
 use Rattle.p9_straight.proofs.SourceLists.{Each, each_weaker, each_at, neither, neither_left, neither_right, same_is, true_not}
 use Rattle.p9_straight.proofs.SourceForm.{file_form, AreNew}
 use Rattle.p9_straight.proofs.SourceTyped.{Thing, AVariable, AMain, main_thing, things}

@@ -1,12 +1,12 @@
 -- How names occur in the C modules of files, and in the suite's own module.
 use Rattle.std.proofs.Common.{◌≡◌, ℕ, zero, suc, true, false, List, [], ◌∷◌, map, length, Some, None, Contains, refl, sym, ap, ◌∙◌, subst, codes}
 use Rattle.std.specs.Prelude.{slice_get}
-use Rattle.p9_lang.specs.Form.{same_name, is_among, functions}
-use Rattle.p9_lang.specs.Modules.{system_names, system_type}
+use Rattle.p9_first.specs.Form.{same_name, is_among, functions}
+use Rattle.p9_first.specs.Modules.{system_names, system_type}
 use Rattle.p9_form.specs.declared.file.File.{File}
 use Rattle.p9_form.specs.Items.{source_of}
 use Rattle.p9_share.proofs.Within.{Within, within_none, contains_within}
-use Rattle.p9_cmean.specs.Joins.{Uses, DefinesCode, Occurrence, shared, all_shared, system_module, Occurs}
+use Rattle.p9_first.specs.Joins.{Uses, DefinesCode, Occurrence, shared, all_shared, system_module, Occurs}
 use Rattle.p9_agree.proofs.Fit.{true_false, not_function}
 use Rattle.p9_agree.proofs.Seen.{within_contained}
 

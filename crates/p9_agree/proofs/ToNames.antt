@@ -6,21 +6,23 @@ use Rattle.p9_abs.specs.declared.modules.AModule.{AModule}
 use Rattle.p9_abs.specs.declared.modules.Symbol.{Symbol}
 use Rattle.p9_abs.specs.declared.modules.Body.{Body}
 use Rattle.p9_abs.specs.declared.modules.Body.TheVariants.{Declared, Used, Text, Data, Common}
-use Rattle.p9_abs.specs.Modules.{size_of, is_definition}
-use Rattle.p9_lang.specs.Form.{same_name, is_among, IsFile}
-use Rattle.p9_lang.specs.Modules.{system_names}
+use Rattle.p9_abs.specs.Modules.{size_of, is_definition, is_text}
+use Rattle.p9_first.specs.Form.{same_name, is_among, IsFile}
+use Rattle.p9_first.specs.Modules.{system_names}
 use Rattle.p9_form.specs.declared.file.Statement.{Statement}
 use Rattle.p9_form.specs.declared.file.First.{First}
 use Rattle.p9_form.specs.declared.file.First.TheVariants as first
 use Rattle.p9_form.specs.declared.file.Declaration.{Declaration}
 use Rattle.p9_form.specs.declared.file.File.{File}
 use Rattle.p9_form.specs.Items.{items_of}
-use Rattle.p9_names.specs.declared.table.Def.{Def}
+use Rattle.p9_abs.specs.declared.modules.Def.{Def}
 use Rattle.p9_names.specs.declared.rules.Rule.{Rule}
 use Rattle.p9_names.specs.declared.rules.Rule.TheVariants.{Once, Agreement}
-use Rattle.p9_names.specs.Linking.{Occurs, Defines, Conflicts, IsKept, HasMain, IsNotAfter, AllResolved, body_names, module_names, is_use}
-use Rattle.p9_names.specs.Rules.{clash, is_empty, is_text, is_main, main_name, signatures_differ, sizes_differ, differ}
-use Rattle.p9_names.specs.Answers.{linked, Joins}
+use Rattle.p9_abs.specs.Names.{Occurs, Defines, IsNotAfter, body_names, module_names}
+use Rattle.p9_names.specs.Linking.{Conflicts, IsKept, HasMain, AllResolved, is_use}
+use Rattle.p9_names.specs.Rules.{clash, is_empty, is_main, main_name, signatures_differ, sizes_differ, differ}
+use Rattle.p9_abs.specs.BuiltIn.{linked}
+use Rattle.p9_names.specs.Answers.{Joins}
 use Rattle.p9_share.specs.Symbols.{module_of, symbols_of, signature_of, body_of, variable_symbol, main_symbol, used_names}
 use Rattle.p9_share.proofs.Names.{same_bytes, same_is}
 use Rattle.p9_share.proofs.Valid.{same_self}

@@ -1,10 +1,10 @@
 -- The C modules of files that fit together join.
 use Rattle.std.proofs.Common.{◌≡◌, inl, ◌<◌, ℕ, Bool, true, false, not, IsTrue, List, map, length, Some, None, Option, All, refl, sym, ap, ◌∙◌, subst, arith, codes}
 use Rattle.std.specs.Prelude.{slice_get}
-use Rattle.p9_lang.specs.Types.{TypeTree}
-use Rattle.p9_lang.specs.Layout.{size_of}
-use Rattle.p9_lang.specs.Form.{is_among, IsFile}
-use Rattle.p9_lang.specs.Modules.{system_type}
+use Rattle.p9_first.specs.Types.{TypeTree}
+use Rattle.p9_first.specs.Layout.{size_of}
+use Rattle.p9_first.specs.Form.{is_among, IsFile}
+use Rattle.p9_first.specs.Modules.{system_type}
 use Rattle.p9_form.specs.declared.file.First.{First}
 use Rattle.p9_form.specs.declared.file.First.TheVariants as first
 use Rattle.p9_form.specs.declared.file.Declaration.{Declaration}
@@ -12,7 +12,7 @@ use Rattle.p9_form.specs.declared.file.File.{File}
 use Rattle.p9_form.specs.Items.{items_of, source_of}
 use Rattle.p9_share.specs.Symbols.{used_names}
 use Rattle.p9_share.proofs.Within.{get_below}
-use Rattle.p9_cmean.specs.Joins.{Role, Declares, Uses, DefinesCode, DefinesData, DefinesCommon, Occurrence, Occurs, defines, may_meet, AgreeIfKnown, SameSize, Meet, IsMainCode, Join}
+use Rattle.p9_first.specs.Joins.{Role, Declares, Uses, DefinesCode, DefinesData, DefinesCommon, Occurrence, Occurs, defines, may_meet, AgreeIfKnown, SameSize, Meet, IsMainCode, Join}
 use Rattle.p9_agree.proofs.Declared.{number_type, first_role, main_brief}
 use Rattle.p9_agree.proofs.Seen.{shown, variable_seen, IsMereRole, Seen, SeenSystem, SeenVariable, SeenMain, seen_of, variable_seen_there, main_seen_there}
 use Rattle.p9_agree.proofs.Fit.{AreAlike, HasDefinition, Fit, true_false}

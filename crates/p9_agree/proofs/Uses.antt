@@ -1,13 +1,13 @@
 -- The names that a module of the form uses are those in the statements of its `main`.
 use Rattle.std.proofs.Common.{◌≡◌, ℕ, ◌+◌, Bool, true, false, ◌||◌, List, [], ◌∷◌, ◌++◌, flat_map, Some, None, Option, refl, sym, ap, ◌∙◌, append-nil, codes}
-use Rattle.p9_lang.specs.declared.tree.Kind.TheVariants as kind
-use Rattle.p9_lang.specs.Types.{TypeTree, Void, Int, Long, Function, Outer}
-use Rattle.p9_lang.specs.Types as types
-use Rattle.p9_lang.specs.Trees.{none, SyntaxRow, nodes_of}
-use Rattle.p9_lang.specs.Form.{is_among, is_variable_name, IsFile}
-use Rattle.p9_lang.specs.Typing.{Judged, Has, Scope, outer, named, texts_in, system_scope, scope_after}
-use Rattle.p9_lang.specs.Modules.{judged_meaning, use_at, uses_in, uses_in_row}
-use Rattle.p9_lang.proofs.Labels.{typed_expression, typed_statement, typed_statements, typed_item, typed_items, source_items}
+use Rattle.p9_first.specs.declared.tree.Kind.TheVariants as kind
+use Rattle.p9_first.specs.Types.{TypeTree, Void, Int, Long, Function, Outer}
+use Rattle.p9_first.specs.Types as types
+use Rattle.p9_first.specs.Trees.{none, SyntaxRow, nodes_of}
+use Rattle.p9_first.specs.Form.{is_among, is_variable_name, IsFile}
+use Rattle.p9_first.specs.Typing.{Judged, Has, Scope, outer, named, texts_in, system_scope, scope_after}
+use Rattle.p9_first.specs.Modules.{judged_meaning, use_at, uses_in, uses_in_row}
+use Rattle.p9_first.proofs.Labels.{typed_expression, typed_statement, typed_statements, typed_item, typed_items, source_items}
 use Rattle.p9_form.specs.declared.file.Operand.{Operand}
 use Rattle.p9_form.specs.declared.file.Operand.TheVariants.{Variable, Number}
 use Rattle.p9_form.specs.declared.file.Statement.{Statement}

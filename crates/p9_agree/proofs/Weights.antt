@@ -1,10 +1,10 @@
 -- How many nodes and calls `main` of a small file has, and so the room that it needs.
 use Rattle.std.proofs.Common.{◌≡◌, ◌≤◌, ℕ, suc, ◌+◌, ◌*◌, Bool, true, false, if◌then◌else◌, List, [], ◌∷◌, ◌++◌, length, map, Some, None, Option, refl, sym, subst, arith}
-use Rattle.p9_lang.specs.Trees.{none, SyntaxRow, nodes_of, nodes_of_row}
-use Rattle.p9_lang.specs.Form.{same_name, is_among, IsFile}
-use Rattle.p9_lang.specs.Typing.{Scope, texts_in, system_scope, scope_after}
-use Rattle.p9_lang.specs.Modules.{Typed, Source, Declaration as Declared, Way, Only, Tentative, Initial, Body, declarations as declared_by, declarations_in, declarations_of, TextObject, uses_in_row, texts_of_row, SymbolKind, DeclaredOnly, Used, Code, Data, TextData, Common, Symbol, kind_of, symbol_of, symbol_names, text_symbol, symbols}
-use Rattle.p9_lang.proofs.Labels.{typed_expression, typed_statement, typed_statements, typed_item, typed_items, source_items}
+use Rattle.p9_first.specs.Trees.{none, SyntaxRow, nodes_of, nodes_of_row}
+use Rattle.p9_first.specs.Form.{same_name, is_among, IsFile}
+use Rattle.p9_first.specs.Typing.{Scope, texts_in, system_scope, scope_after}
+use Rattle.p9_first.specs.Modules.{Typed, Source, Declaration as Declared, Way, Only, Tentative, Initial, Body, declarations as declared_by, declarations_in, declarations_of, TextObject, uses_in_row, texts_of_row, SymbolKind, DeclaredOnly, Used, Code, Data, TextData, Common, Symbol, kind_of, symbol_of, symbol_names, text_symbol, symbols}
+use Rattle.p9_first.proofs.Labels.{typed_expression, typed_statement, typed_statements, typed_item, typed_items, source_items}
 use Rattle.p9_form.specs.declared.file.Operand.{Operand}
 use Rattle.p9_form.specs.declared.file.Operand.TheVariants.{Variable, Number}
 use Rattle.p9_form.specs.declared.file.Statement.{Statement}
@@ -15,7 +15,7 @@ use Rattle.p9_form.specs.declared.file.Declaration.{Declaration}
 use Rattle.p9_form.specs.declared.file.File.{File}
 use Rattle.p9_form.specs.Items.{operand_tree, sum_tree, statement_tree, statement_trees, statement_size, declaration_tree, declaration_trees, declaration_size, declarations_size, main_tree, main_trees, main_size, items_of, source_of}
 use Rattle.p9_form.specs.Sharing.{statements, IsSmall}
-use Rattle.p9_cmean.specs.Union.{Entry, Defined, entries_from, first_code, calls_in_row, weighed_nodes, need_of}
+use Rattle.p9_first.specs.Union.{Entry, Defined, entries_from, first_code, calls_in_row, weighed_nodes, need_of}
 use Rattle.p9_straight.proofs.SourceLists.{Each, each_append, bool_cases}
 
 -- Statements

@@ -1,11 +1,11 @@
 -- A run of files of the form is never too deep.
 use Rattle.std.specs.Prelude.{◌≡◌, ℕ, List, map, All}
-use Rattle.p9_lang.specs.Form.{IsFile}
+use Rattle.p9_first.specs.Form.{IsFile}
 use Rattle.p9_form.specs.declared.file.File.{File}
 use Rattle.p9_form.specs.Items.{items_of, source_of}
 use Rattle.p9_form.specs.Sharing.{IsSmall, AreJoined}
-use Rattle.p9_cmean.specs.Turns.{Outcome, Ended, Out, Undefined, Deep}
-use Rattle.p9_cmean.specs.CRun.{source_run}
+use Rattle.p9_first.specs.Turns.{Outcome, Ended, Out, Undefined, Deep}
+use Rattle.p9_first.specs.CRun.{source_run}
 use Rattle.p9_straight.specs.FormRun.{Came, Ends, RunsOut, Fails, form_run}
 
 -- each call of a run has had its room

@@ -6,28 +6,28 @@ use Rattle.std.proofs.lemmas.List.{length-take-le}
 use Rattle.p9_aout.specs.declared.format.Header.{Header}
 use Rattle.p9_aout.specs.declared.format.AoutFault.{AoutFault}
 use Rattle.p9_aout.specs.declared.format.AoutFault.TheVariants.{BadMagic, ShortFile, BadSegment, Memory}
-use Rattle.p9_aout.specs.Header.{header_of, has_good_segments, file_size}
-use Rattle.p9_aout.specs.Image.{image_of, parts_at, ImageParts, IsWithinBounds}
+use Rattle.p9_aout.specs.Header.{mips_magic, header_of, has_good_segments, file_size}
+use Rattle.p9_aout.specs.Image.{image_for, image_of, parts_at, ImageParts, IsWithinBounds}
 
-pub no_header : (bytes : List ℕ) → length bytes < 32 → image_of bytes ≡ Err (ShortFile 32)
-unfolding image_of
-no_header bytes short = grind (arith, nat_tests)
+pub no_header : (magic : ℕ) (bytes : List ℕ) → length bytes < 32 → image_for magic bytes ≡ Err (ShortFile 32)
+unfolding image_for
+no_header magic bytes short = grind (arith, nat_tests)
 
-pub other_magic : (bytes : List ℕ) (h : Header) → h ≡ header_of bytes → 32 ≤ length bytes → h.magic ≢ 0x407 → image_of bytes ≡ Err (BadMagic h.magic)
-unfolding image_of
-other_magic bytes h is long other = grind (arith, nat_tests)
+pub other_magic : (magic : ℕ) (bytes : List ℕ) (h : Header) → h ≡ header_of bytes → 32 ≤ length bytes → h.magic ≢ magic → image_for magic bytes ≡ Err (BadMagic h.magic)
+unfolding image_for
+other_magic magic bytes h is long other = grind (arith, nat_tests)
 
-pub bad_segment : (bytes : List ℕ) (h : Header) → h ≡ header_of bytes → 32 ≤ length bytes → h.magic ≡ 0x407 → has_good_segments h ≡ false → image_of bytes ≡ Err BadSegment
-unfolding image_of
-bad_segment bytes h is long magic bad = grind (arith, nat_tests)
+pub bad_segment : (magic : ℕ) (bytes : List ℕ) (h : Header) → h ≡ header_of bytes → 32 ≤ length bytes → h.magic ≡ magic → has_good_segments h ≡ false → image_for magic bytes ≡ Err BadSegment
+unfolding image_for
+bad_segment magic bytes h is long same bad = grind (arith, nat_tests)
 
-pub cut_short : (bytes : List ℕ) (h : Header) → h ≡ header_of bytes → 32 ≤ length bytes → h.magic ≡ 0x407 → has_good_segments h ≡ true → length bytes < file_size h → image_of bytes ≡ Err (ShortFile (file_size h))
-unfolding image_of
-cut_short bytes h is long magic good short = grind (arith, nat_tests)
+pub cut_short : (magic : ℕ) (bytes : List ℕ) (h : Header) → h ≡ header_of bytes → 32 ≤ length bytes → h.magic ≡ magic → has_good_segments h ≡ true → length bytes < file_size h → image_for magic bytes ≡ Err (ShortFile (file_size h))
+unfolding image_for
+cut_short magic bytes h is long same good short = grind (arith, nat_tests)
 
-pub whole : (bytes : List ℕ) (h : Header) → h ≡ header_of bytes → h.magic ≡ 0x407 → has_good_segments h ≡ true → file_size h ≤ length bytes → image_of bytes ≡ Ok (parts_at bytes h)
-unfolding image_of
-whole bytes h is magic good long = grind (arith, nat_tests)
+pub whole : (magic : ℕ) (bytes : List ℕ) (h : Header) → h ≡ header_of bytes → h.magic ≡ magic → has_good_segments h ≡ true → file_size h ≤ length bytes → image_for magic bytes ≡ Ok (parts_at bytes h)
+unfolding image_for
+whole magic bytes h is same good long = grind (arith, nat_tests)
 
 -- the numbers of a header whose segments are good
 good_numbers : (text init bss entry : ℕ) →
@@ -58,14 +58,14 @@ image_cases : (bytes : List ℕ) →
 image_cases bytes =
     let h = header_of bytes in
     elim (cases_lt (length bytes) 32) [
-      | inl short ↦ inl (ShortFile 32, no_header bytes short, λ e. cc)
-      | inr long ↦ elim (cases_eq h.magic 0x407) [
-        | inr other ↦ inl (BadMagic h.magic, other_magic bytes h refl long other, λ e. cc)
+      | inl short ↦ inl (ShortFile 32, no_header mips_magic bytes short, λ e. cc)
+      | inr long ↦ elim (cases_eq h.magic mips_magic) [
+        | inr other ↦ inl (BadMagic h.magic, other_magic mips_magic bytes h refl long other, λ e. cc)
         | inl magic ↦ elim (cases_Bool (has_good_segments h)) [
-          | inr bad ↦ inl (BadSegment, bad_segment bytes h refl long magic bad, λ e. cc)
+          | inr bad ↦ inl (BadSegment, bad_segment mips_magic bytes h refl long magic bad, λ e. cc)
           | inl good ↦ elim (cases_lt (length bytes) (file_size h)) [
-            | inl cut ↦ inl (ShortFile (file_size h), cut_short bytes h refl long magic good cut, λ e. cc)
-            | inr all ↦ inr (good, all, whole bytes h refl magic good all)
+            | inl cut ↦ inl (ShortFile (file_size h), cut_short mips_magic bytes h refl long magic good cut, λ e. cc)
+            | inr all ↦ inr (good, all, whole mips_magic bytes h refl magic good all)
           ]
         ]
       ]

@@ -4,7 +4,7 @@ use Rattle.std.proofs.lemmas.Bool.Decides.{nat_tests}
 use Rattle.std.proofs.Math.Seq.{take-append_seam, drop-append_seam, drop-append-add}
 use Rattle.p9_aout.specs.declared.format.Header.{Header}
 use Rattle.p9_aout.specs.declared.format.Image.{Image}
-use Rattle.p9_aout.specs.Header.{header_of, header_bytes, has_good_segments, file_size}
+use Rattle.p9_aout.specs.Header.{mips_magic, header_of, header_bytes, has_good_segments, file_size}
 use Rattle.p9_aout.specs.Image.{image_of, parts_at, parts_of, ImageParts, IsWithinBounds}
 use Rattle.p9_aout.specs.Symbols.{symbol_bytes}
 use Rattle.p9_aout.specs.Spelled.{spelled, header_for}
@@ -53,14 +53,14 @@ parts_back h head text init rest l t d =
     rw (text_back h.text_size head text (init ++ rest) l t, init_back h.text_size h.data_size head text init rest l t d) refl
 
 -- the bytes of a header, text, data and more are the image of these
-image_back : (h : Header) (text init rest : List ℕ) → HasWords h → h.magic ≡ 0x407 → has_good_segments h ≡ true →
+image_back : (h : Header) (text init rest : List ℕ) → HasWords h → h.magic ≡ mips_magic → has_good_segments h ≡ true →
     h.text_size ≡ length text → h.data_size ≡ length init → h.syms_size + h.sp_size + h.pc_size ≤ length rest →
     image_of (header_bytes h ++ (text ++ (init ++ rest))) ≡ Ok (record { entry = h.entry; text = text; init = init; bss = h.bss_size })
 image_back h text init rest fits magic good t d more =
     let head = header_bytes h in
     let bytes = head ++ (text ++ (init ++ rest)) in
     let long : file_size h ≤ length bytes = omega (arith, length-append head (text ++ (init ++ rest)), length-append text (init ++ rest), length-append init rest) in
-    whole bytes h (header_back h (text ++ (init ++ rest)) fits) magic good long
+    whole mips_magic bytes h (header_back h (text ++ (init ++ rest)) fits) magic good long
     ∙ ap (λ (p : ImageParts). Ok p) (parts_back h head text init rest refl t d)
 
 good_test : (text init bss entry : ℕ) → text % 4 ≡ 0 → 0 < text → text ≤ 33554432 → init + bss ≤ 16777216 → entry % 4 ≡ 0 → 4128 ≤ entry → entry < 4128 + text →

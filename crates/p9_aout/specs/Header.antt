@@ -4,6 +4,10 @@ use mathlib.Core.Bool.{◌&&◌}
 use Rattle.p9_base.specs.Numbers.{word_at, word_bytes}
 use Rattle.p9_aout.specs.declared.format.Header.{Header}
 
+-- of the big-endian R3000
+abbrev pub mips_magic : ℕ
+mips_magic = 0x407
+
 -- the words in their places
 abbrev pub header_of : List ℕ → Header
 header_of bytes = record {

@@ -4,7 +4,7 @@ use Rattle.p9_aout.specs.declared.format.Image.{Image}
 use Rattle.p9_aout.specs.declared.format.AoutFault.{AoutFault}
 use Rattle.p9_aout.specs.declared.format.AoutFault.TheVariants.{BadMagic, ShortFile, BadSegment}
 use Rattle.p9_aout.specs.declared.format.Header.{Header}
-use Rattle.p9_aout.specs.Header.{header_of, has_good_segments, file_size, text_start}
+use Rattle.p9_aout.specs.Header.{mips_magic, header_of, has_good_segments, file_size, text_start}
 
 -- what a machine starts from: the entry's address, the bytes of text and data, and the zeros after these
 pub record ImageParts : Type 0 where
@@ -36,11 +36,16 @@ parts_at bytes h = record {
   bss = h.bss_size;
 }
 
--- the image of a file's bytes, or the first of its faults; what lies behind the data is passed over
-unfoldable pub image_of : List ℕ → Result ImageParts AoutFault
-image_of bytes =
+-- the image of a file's bytes, for the machine whose executables begin with this magic number, or the first of the
+-- file's faults; what lies behind the data is passed over
+unfoldable pub image_for : (magic : ℕ) → List ℕ → Result ImageParts AoutFault
+image_for magic bytes =
     if nat_lt (length bytes) 32 then Err (ShortFile 32) else
-    if not ((header_of bytes).magic == 0x407) then Err (BadMagic (header_of bytes).magic) else
+    if not ((header_of bytes).magic == magic) then Err (BadMagic (header_of bytes).magic) else
     if not (has_good_segments (header_of bytes)) then Err BadSegment else
     if nat_lt (length bytes) (file_size (header_of bytes)) then Err (ShortFile (file_size (header_of bytes))) else
     Ok (parts_at bytes (header_of bytes))
+
+-- for the big-endian R3000
+abbrev pub image_of : List ℕ → Result ImageParts AoutFault
+image_of bytes = image_for mips_magic bytes

@@ -2,13 +2,13 @@
 use Rattle.std.specs.Prelude.{ℕ, ◌+◌, List, ◌++◌, length, drop}
 use Rattle.p9_aout.specs.declared.format.Image.{Image}
 use Rattle.p9_aout.specs.declared.format.Header.{Header}
-use Rattle.p9_aout.specs.Header.{header_bytes}
+use Rattle.p9_aout.specs.Header.{mips_magic, header_bytes}
 use Rattle.p9_aout.specs.Symbols.{symbol_bytes}
 
 -- the sizes of the image's parts, and no table for debuggers
 abbrev pub header_for : Image → Header
 header_for image = record {
-  magic = 0x407;
+  magic = mips_magic;
   text_size = length image.text;
   data_size = length image.init;
   bss_size = image.bss;

@@ -8,5 +8,5 @@ mod tests;
 mod writer;
 
 pub use format::{AoutFault, AoutSym, Image};
-pub use reader::read_aout;
+pub use reader::{read_aout, read_with_magic};
 pub use writer::write_aout;

@@ -2,7 +2,7 @@
 ghost use Rattle.std.specs.Prelude.{◌≡◌, ◌+◌, ◌≤◌, ◌↔◌, ℕ, [], true, length, IfOk, IfErr, IsErrOf};
 ghost use Rattle.p9_base.specs.Numbers.{word_at};
 ghost use Rattle.p9_aout.specs.Header.{header_of, has_good_segments, file_size};
-ghost use Rattle.p9_aout.specs.Image.{image_of, parts_of, parts_at, IsWithinBounds};
+ghost use Rattle.p9_aout.specs.Image.{image_for, image_of, parts_of, parts_at, IsWithinBounds};
 
 use crate::format::{
     AoutFault, HEADER_SIZE, Header, Image, MAGIC, MOST_DATA, MOST_TEXT, TEXT_START,
@@ -60,20 +60,20 @@ fn file_size(header: &Header) -> u64
         + u64::from(header.pc_size)
 }
 
-// The header of an image, or the first fault.
+// The header of an image for the machine with this magic number, or the first fault.
 #[tactic(auto, using(crate::proofs::Reading::no_header, crate::proofs::Reading::other_magic, crate::proofs::Reading::bad_segment, crate::proofs::Reading::cut_short, crate::proofs::Reading::whole))]
-fn checked_header(bytes: &[u8]) -> Result<Header, AoutFault>
+fn checked_header(magic: u32, bytes: &[u8]) -> Result<Header, AoutFault>
     ensures header { IfOk result (λ header. header ≡ header_of bytes.now) }
     ensures good { IfOk result (λ header. has_good_segments header ≡ true) }
     ensures long { IfOk result (λ header. file_size header ≤ length bytes.now) }
-    ensures image { IfOk result (λ header. image_of bytes.now ≡ Ok (parts_at bytes.now header)) }
-    ensures fault { IfErr result (λ fault. image_of bytes.now ≡ Err fault) }
+    ensures image { IfOk result (λ header. image_for magic bytes.now ≡ Ok (parts_at bytes.now header)) }
+    ensures fault { IfErr result (λ fault. image_for magic bytes.now ≡ Err fault) }
 {
     if bytes.len() < HEADER_SIZE {
         return Err(AoutFault::ShortFile(32));
     }
     let header = read_header(bytes);
-    if header.magic != MAGIC {
+    if header.magic != magic {
         return Err(AoutFault::BadMagic(header.magic));
     }
     if !has_good_segments(&header) {
@@ -106,10 +106,28 @@ fn image_at(alloc: Global, bytes: &[u8], header: &Header) -> Result<Image, AoutF
     })
 }
 
-/// The image of a file's bytes, without its symbols. Of several faults the first counts, in the order
-/// of a file too short for a header, the magic number, the sizes with the entry, and a file too short
-/// for its sizes. Want of memory hides no fault.
+/// The image of a file's bytes, without its symbols, for the machine whose executables begin with
+/// this magic number. Of several faults the first counts, in the order of a file too short for a
+/// header, the magic number, the sizes with the entry, and a file too short for its sizes. Want of
+/// memory hides no fault.
 #[tactic(auto, using(crate::proofs::Reading::within_bounds))]
+pub fn read_with_magic(alloc: Global, magic: u32, bytes: &[u8]) -> Result<Image, AoutFault>
+    ensures image { IfOk result (λ image. image_for magic bytes.now ≡ Ok (parts_of image)) }
+    ensures bounds { IfOk result (λ image. IsWithinBounds (parts_of image)) }
+    ensures no_symbols { IfOk result (λ image. image.syms.items ≡ []) }
+
+    ensures magic { (m : ℕ) →
+        IsErrOf result (AoutFault.BadMagic m) ↔ (image_for magic bytes.now ≡ Err (AoutFault.BadMagic m)) }
+    ensures short { (need : ℕ) →
+        IsErrOf result (AoutFault.ShortFile need) ↔ (image_for magic bytes.now ≡ Err (AoutFault.ShortFile need)) }
+    ensures segment { IsErrOf result AoutFault.BadSegment ↔ (image_for magic bytes.now ≡ Err AoutFault.BadSegment) }
+{
+    let header = checked_header(magic, bytes)?;
+    image_at(alloc, bytes, &header)
+}
+
+/// The image of a file's bytes, without its symbols, for the big-endian R3000. Faults come in the
+/// order of `read_with_magic`.
 pub fn read_aout(alloc: Global, bytes: &[u8]) -> Result<Image, AoutFault>
     ensures image { IfOk result (λ image. image_of bytes.now ≡ Ok (parts_of image)) }
     ensures bounds { IfOk result (λ image. IsWithinBounds (parts_of image)) }
@@ -121,6 +139,5 @@ pub fn read_aout(alloc: Global, bytes: &[u8]) -> Result<Image, AoutFault>
         IsErrOf result (AoutFault.ShortFile need) ↔ (image_of bytes.now ≡ Err (AoutFault.ShortFile need)) }
     ensures segment { IsErrOf result AoutFault.BadSegment ↔ (image_of bytes.now ≡ Err AoutFault.BadSegment) }
 {
-    let header = checked_header(bytes)?;
-    image_at(alloc, bytes, &header)
+    read_with_magic(alloc, MAGIC, bytes)
 }

@@ -59,6 +59,20 @@ fn refuses_by_the_first_fault(rt: HostRuntime) -> Result<(), Fail> {
 }
 
 #[test]
+fn reads_for_another_machine(rt: HostRuntime) -> Result<(), Fail> {
+    // The magic number of the little-endian R3000.
+    let mut bytes = EXITS;
+    bytes[2] = 9;
+    let image = read_with_magic(rt.alloc(), 0x907, &bytes)?;
+    assert_eq!(rt; image.entry, 0x1020);
+    assert_eq!(rt;
+        read_with_magic(rt.alloc(), 0x907, &EXITS).err(),
+        Some(AoutFault::BadMagic(0x407))
+    );
+    Ok(())
+}
+
+#[test]
 fn writes_a_symbol(rt: HostRuntime) -> Result<(), Fail> {
     let mut image = read_aout(rt.alloc(), &EXITS)?;
     let name = Bytes {

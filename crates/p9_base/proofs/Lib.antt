@@ -1,4 +1,6 @@
 pub mod Shifts
+pub mod Holding
+pub mod Kept
 pub mod CallLemmas
 pub mod CallLists
 pub mod Pieces

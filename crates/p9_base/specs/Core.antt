@@ -5,7 +5,7 @@ use Rattle.p9_base.specs.declared.halt.Ending.{Ending}
 use Rattle.p9_base.specs.declared.order.ByteOrder.{ByteOrder}
 use Rattle.p9_base.specs.declared.order.ByteOrder.TheVariants.{Big, Little}
 
--- The places of memory: the text after its header, and the stack
+-- The map of memory: the text after its header, and the stack
 
 abbrev pub text_start : ℕ
 text_start = 0x1020

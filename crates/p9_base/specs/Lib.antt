@@ -4,6 +4,7 @@ pub mod Outside
 pub mod Calls
 pub mod Memory
 pub mod Core
+pub mod Holding
 pub mod Effects
 pub mod SystemCalls
 pub mod Streams

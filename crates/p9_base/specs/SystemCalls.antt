@@ -13,7 +13,7 @@ use Rattle.p9_base.specs.Effects.{advanced, halted, applied}
 
 -- What a call asks
 
--- an argument's word, or the stop; a place that isn't a multiple of 4 stops first
+-- an argument's word, or the stop; an address that isn't a multiple of 4 stops first
 abbrev pub argument : Core → ℕ → Result ℕ HaltCause
 argument c a =
     if a % 4 == 0 then (if nat_le 4 (readable c a) then Ok (read_word c a) else Err (BadAddress (a + readable c a)))

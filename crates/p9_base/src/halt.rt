@@ -39,7 +39,7 @@ pub enum Effect {
     StoreByte { at: u32, value: u32 },
     StoreHalf { at: u32, value: u32 },
     StoreWord { at: u32, value: u32 },
-    /// A branch or jump to a place that its word names; it links register `link` even where it
+    /// A branch or jump to an address that its word names; it links register `link` even where it
     /// isn't taken. Register 0 links nothing.
     Branch { link: u32, taken: bool, to: u32 },
     /// A jump to an address from a register.

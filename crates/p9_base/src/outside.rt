@@ -47,6 +47,8 @@ pub trait Source {
     /// The call was made on the one state, was answered so, and left the other.
     ghost did: { Self → TakeCall → Self → Type 0 };
 
+    /// Moves the next bytes into the front of the room, as many as it likes but at least one, and
+    /// says how many; or says that none are left, or that the call failed.
     fn take(&mut self, room: &mut [u8]) -> Took
         requires { 0 < length room.old }
         ensures did { did self.old (Take room.old room.new result) self.new }
@@ -68,6 +70,8 @@ pub trait Sink {
     /// The call was made on the one state, was answered so, and left the other.
     ghost did: { Self → PutCall → Self → Type 0 };
 
+    /// Appends bytes from the front of the piece, as many as it likes but at least one, and says how
+    /// many; or says that the call failed.
     fn put(&mut self, piece: &[u8]) -> Put
         requires { 0 < length piece.now }
         ensures did { did self.old (PutPiece piece.now result) self.new }
@@ -89,11 +93,15 @@ pub trait Files {
     /// The call was made on the one state, was answered so, and left the other.
     ghost did: { Self → FileCall → Self → Type 0 };
 
+    /// The bytes of the file of this name, or that there is none, that the call failed, or that
+    /// memory ran out.
     fn read(&mut self, alloc: Global, name: &Name) -> Got
         ensures did { did self.old (ReadCall name.now result) self.new }
         ensures read { Reads (held self.old) (held self.new) name.now result }
         ensures cause { ReadCause (faults self.old) (faults self.new) result };
 
+    /// Makes these bytes the whole file of this name. After a failure the file of this name may hold
+    /// anything; after want of memory it is as before.
     fn write(&mut self, alloc: Global, name: &Name, bytes: &Bytes) -> Result<(), FileFault>
         ensures did { did self.old (WriteCall name.now bytes.now result) self.new }
         ensures written { Writes (held self.old) (held self.new) name.now bytes.now result }

@@ -1,9 +1,10 @@
 use crate::{
-    Bytes, Calls, Entry, FileFault, Files, Got, HostFiles, MemFiles, MemSink, MemSource, Put,
-    ReadSource, Sink, Source, Took, WriteSink, field, get32, is_negative, is_signed_less, low8,
-    low16, put32, sext8, sext16, shift_left, shift_right, shift_right_signed, signed_product,
-    signed_quotient, signed_remainder, unsigned_product, word_and, word_complement,
-    word_difference, word_negation, word_nor, word_or, word_product, word_sum, word_xor,
+    ByteOrder, Bytes, Calls, Entry, FileFault, Files, Got, HostFiles, MemFiles, MemSink, MemSource,
+    Put, ReadSource, Sink, Source, Took, WriteSink, field, fill, fill_at, get32, is_negative,
+    is_signed_less, low8, low16, put_all, put32, sext8, sext16, shift_left, shift_right,
+    shift_right_signed, signed_product, signed_quotient, signed_remainder, unsigned_product,
+    word_and, word_complement, word_difference, word_negation, word_nor, word_or, word_product,
+    word_sum, word_xor,
 };
 use std::alloc::{AllocError, Global};
 use std::fs;
@@ -36,6 +37,22 @@ fn fields_and_signs(rt: HostRuntime) {
         (low16(0x7_1234), 0x1234),
     ] {
         assert_eq!(rt; got, want);
+    }
+}
+
+#[test]
+fn words_by_their_byte_order(rt: HostRuntime) {
+    for (order, half, word, written) in [
+        (ByteOrder::Big, 0x0203, 0x0102_0304, [1, 2, 3, 4]),
+        (ByteOrder::Little, 0x0302, 0x0403_0201, [4, 3, 2, 1]),
+    ] {
+        let mut bytes = [1, 2, 3, 4];
+        assert_eq!(rt; order.half(&bytes, 1), half);
+        assert_eq!(rt; order.word(&bytes, 0), word);
+        order.set_word(&mut bytes, 0, 0x0102_0304);
+        assert_eq!(rt; bytes, written);
+        order.set_half(&mut bytes, 2, half);
+        assert_eq!(rt; &bytes[2..], [2, 3].as_slice());
     }
 }
 
@@ -120,6 +137,24 @@ fn memory_sink_takes_what_fits(rt: HostRuntime) -> Result<(), Fail> {
     assert_eq!(rt; sink.put(b"ab"), Put::Wrote(2));
     assert_eq!(rt; sink.put(b"cd"), Put::Wrote(1));
     assert_eq!(rt; sink.put(b"d"), Put::Failed);
+    assert_eq!(rt; sink.bytes(), b"abc".as_slice());
+    Ok(())
+}
+
+#[test]
+fn whole_rooms_and_pieces(rt: HostRuntime) -> Result<(), Fail> {
+    let alloc = rt.alloc();
+    let mut source = MemSource::new(bytes(alloc, b"abcdef")?, calls(alloc, &[])?);
+    let mut room = [b'.'; 4];
+    assert_eq!(rt; fill(&mut source, &mut room), Some(4));
+    assert_eq!(rt; room, *b"abcd");
+    assert_eq!(rt; fill_at(&mut source, &mut room, 1, 3), Some(2));
+    assert_eq!(rt; room, *b"aefd");
+    let mut sink = MemSink::new(alloc, 3, calls(alloc, &[])?)
+        .ok()
+        .ok_or("no memory")?;
+    assert!(rt; put_all(&mut sink, b"ab"));
+    assert!(rt; !put_all(&mut sink, b"cd"));
     assert_eq!(rt; sink.bytes(), b"abc".as_slice());
     Ok(())
 }

@@ -1,7 +1,7 @@
 -- Calls take turns, and any depth from the turns on gives them the same end.
 use Rattle.std.proofs.Common.{◌≡◌, ◌<◌, ◌≤◌, ℕ, zero, suc, ◌+◌, Bool, true, false, if◌then◌else◌, nat_lt, refl, ap, ◌∙◌, arith}
 use Rattle.p9_cmean.specs.Cells.{Value, State}
-use Rattle.p9_cmean.specs.Plays.{Call, Play, Done, Wrong, Exit, Cut, Turn, Ask, Moved}
+use Rattle.p9_cmean.specs.Plays.{Call, Play, Done, Wrong, NoMeaning, Exit, Cut, Turn, Ask, Moved}
 use Rattle.p9_cmean.specs.Turns.{Outcome, Deep, End, Gave, Over, and_then, Calls, resolve, Functions, room, call_in, calls_to}
 use Rattle.p9_cmean.specs.PlayLaws.{LeavesFewer, CallsTakeTurns, DepthIsEnough}
 
@@ -26,6 +26,7 @@ resolve_at_most : (calls : Calls) → Falls calls → (active : ℕ) (p : Play V
 unfolding Falls
 resolve_at_most calls fl active (Done v s) n c = omega arith
 resolve_at_most calls fl active (Wrong why place s) n c = tt
+resolve_at_most calls fl active (NoMeaning place s) n c = tt
 resolve_at_most calls fl active (Exit text s) n c = tt
 resolve_at_most calls fl active (Cut s) n c = tt
 resolve_at_most calls fl active (Turn s p) zero c = tt
@@ -45,7 +46,7 @@ call_falls : (functions : Functions) (inner : Calls) → Falls inner → Falls (
 unfolding Falls
 call_falls functions inner fl active zero c call s = tt
 call_falls functions inner fl active (suc n) c call s =
-    fewer_if n (nat_lt room (active + functions.need call.function)) (Deep s.output call.place) c
+    fewer_if n (nat_lt room (active + functions.need call.function)) (Deep call.place s) c
     (resolve inner (active + functions.need call.function) n c (functions.body n call s))
     (resolve_at_most inner fl (active + functions.need call.function) (functions.body n call s) n c)
 
@@ -70,6 +71,7 @@ resolve_same : (c d : Calls) → Falls d → (active : ℕ) (p : Play Value) (n 
 unfolding Falls
 resolve_same c d fl active (Done v s) n k h = refl
 resolve_same c d fl active (Wrong why place s) n k h = refl
+resolve_same c d fl active (NoMeaning place s) n k h = refl
 resolve_same c d fl active (Exit text s) n k h = refl
 resolve_same c d fl active (Cut s) n k h = refl
 resolve_same c d fl active (Turn s p) zero k h = refl
@@ -88,6 +90,6 @@ depth_is_enough functions (suc d) (suc e) active zero k call s hd he = refl
 depth_is_enough functions zero (suc e) active (suc n) k call s hd he = absurd (omega arith)
 depth_is_enough functions (suc d) zero active (suc n) k call s hd he = absurd (omega arith)
 depth_is_enough functions (suc d) (suc e) active (suc n) k call s hd he =
-    ap (λ r. if nat_lt room (active + functions.need call.function) then Over (Deep s.output call.place) k else r)
+    ap (λ r. if nat_lt room (active + functions.need call.function) then Over (Deep call.place s) k else r)
     (resolve_same (calls_to d functions) (calls_to e functions) (calls_fall functions e) (active + functions.need call.function) (functions.body n call s) n k
     (λ a m i q t le. depth_is_enough functions d e a m i q t (omega arith) (omega arith)))

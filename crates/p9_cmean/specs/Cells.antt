@@ -2,14 +2,14 @@
 use Rattle.std.specs.Prelude.{ℕ, List, Bool}
 use Rattle.p9_cmean.specs.declared.Place.{Place}
 
--- a function of file scope by its name, or a static one by its module's number and its name
+-- a function with external linkage by its name, or a static one by its module's number and its name
 pub data FunctionName : Type 0 where
   Global : (name : List ℕ) → FunctionName
   Local : (owner : ℕ) (name : List ℕ) → FunctionName
 
--- null, a place in an object by the object's number, or a function
+-- A pointer is into an object, by the object's number and an offset in bytes, or to a function. An
+-- offset is a word: an initialiser may put a pointer before its object.
 pub data Pointer : Type 0 where
-  Null : Pointer
   Into : (object offset : ℕ) → Pointer
   ToFunction : (function : FunctionName) → Pointer
 
@@ -19,12 +19,13 @@ pub data Cell : Type 0 where
   Byte : (n : ℕ) → Cell
   Part : (k : ℕ) (pointer : Pointer) → Cell
 
--- an object has as many cells as its size; a dead one keeps its number
+-- A live object has as many cells as its size. A dead one keeps its number and has no cells.
 pub record Object : Type 0 where
   pub cells : List Cell
-  pub alive : Bool
+  pub is_alive : Bool
 
--- a number below 2^32, a pointer, or no value, of the call that gave none
+-- a word, that is a number below 2^32; the address of an object or a function; or no value, of the
+-- call that gave none. The null pointer is the word 0.
 pub data Value : Type 0 where
   Word : (n : ℕ) → Value
   Address : (pointer : Pointer) → Value

@@ -1,6 +1,13 @@
 // Laws of the definitions in `specs/`. Each function does nothing; its contract is the law.
-ghost use Rattle.p9_cmean.specs.PlayLaws.{BindIsAssociative, CallsTakeTurns, DepthIsEnough, LoopsFollow, LoopsLast, OutputGrows, RunsGoOn};
-ghost use Rattle.p9_cmean.specs.Examples.{RunsOfForm};
+ghost use Rattle.p9_cmean.specs.ConstantLaws.{ConstantsKeepTheirValues};
+ghost use Rattle.p9_cmean.specs.PlayLaws.{BindIsAssociative, CallsTakeTurns, DepthIsEnough, LoopsFollow, LoopsLast, TestedLoopsFollow, TestedLoopsLast};
+ghost use Rattle.p9_cmean.specs.ExamplesOfExpressions.{RunsOfExpressions};
+ghost use Rattle.p9_cmean.specs.ExamplesOfStatements.{RunsOfStatements};
+ghost use Rattle.p9_cmean.specs.ExamplesOfCalls.{RunsOfCalls};
+ghost use Rattle.p9_cmean.specs.ExamplesOfFiles.{RunsOfFiles};
+ghost use Rattle.p9_cmean.specs.ExamplesOfUndefined.{RunsOfUndefined};
+ghost use Rattle.p9_cmean.specs.ExamplesOfWordCounter.{RunsOfWordCounter};
+ghost use Rattle.p9_cmean.specs.RunLaws.{AccessInverts, BodiesLast, InputFalls, OutputGrows, RunsGoOn};
 
 /// Plays one after the other may be grouped in either way.
 #[tactic(auto, using(crate::proofs::Plays::bind_is_associative))]
@@ -14,10 +21,22 @@ pub fn loops_follow()
     ensures { LoopsFollow }
 {}
 
-/// A loop that is given turns takes more than these before it is cut off, so it never is.
+/// So does one that tests before its first turn.
+#[tactic(auto, using(crate::proofs::Plays::tested_loops_follow))]
+pub fn tested_loops_follow()
+    ensures { TestedLoopsFollow }
+{}
+
+/// A loop that is given turns takes more than these before it is cut off.
 #[tactic(auto, using(crate::proofs::Plays::loops_last))]
 pub fn loops_last()
     ensures { LoopsLast }
+{}
+
+/// So does one that tests before its first turn.
+#[tactic(auto, using(crate::proofs::Plays::tested_loops_last))]
+pub fn tested_loops_last()
+    ensures { TestedLoopsLast }
 {}
 
 /// A call that gives a value has taken at least one turn, so turns never rise.
@@ -30,6 +49,12 @@ pub fn calls_take_turns()
 #[tactic(auto, using(crate::proofs::Calls::depth_is_enough))]
 pub fn depth_is_enough()
     ensures { DepthIsEnough }
+{}
+
+/// With more turns the body of a function takes all of them before it is cut off.
+#[tactic(auto, using(crate::proofs::Fitting::bodies_last))]
+pub fn bodies_last()
+    ensures { BodiesLast }
 {}
 
 /// A run that has ended, or is undefined or too deep, is the same with more turns; one that is out
@@ -45,9 +70,61 @@ pub fn output_grows()
     ensures { OutputGrows }
 {}
 
-/// What small programs of the form come to: texts at their ends, a sum over two files, a sum that
-/// wraps, a write past its text, and runs that are out of turns.
-#[tactic(auto, using(crate::proofs::Examples::runs_of_form))]
-pub fn runs_of_form()
-    ensures { RunsOfForm }
+/// With more turns the input that is left is an end of what was left.
+#[tactic(auto, using(crate::proofs::Runs::input_falls))]
+pub fn input_falls()
+    ensures { InputFalls }
+{}
+
+/// An access that is defined is into a live object, at a multiple of its alignment and within the
+/// object's size.
+#[tactic(auto, using(crate::proofs::Accesses::access_inverts))]
+pub fn access_inverts()
+    ensures { AccessInverts }
+{}
+
+/// What small programs for expressions come to: the conversion to a substructure, the order from left to
+/// right, signs, narrowing, steps, unions, copies, and pointers.
+#[tactic(auto, using(crate::proofs::ExamplesOfExpressions::runs_of_expressions))]
+pub fn runs_of_expressions()
+    ensures { RunsOfExpressions }
+{}
+
+/// What small programs for statements come to: loops, a switch that falls through, blocks with their own
+/// automatics, block statics, and a loop that is out of turns.
+#[tactic(auto, using(crate::proofs::ExamplesOfStatements::runs_of_statements))]
+pub fn runs_of_statements()
+    ensures { RunsOfStatements }
+{}
+
+/// What small programs for calls come to: arguments of `main`, system calls with every kind of count,
+/// calls through pointers, recursion, turns, and room at its exact bound.
+#[tactic(auto, using(crate::proofs::ExamplesOfCalls::runs_of_calls))]
+pub fn runs_of_calls()
+    ensures { RunsOfCalls }
+{}
+
+/// What programs of several files come to, with first contents; and that a type with a renamed member
+/// does not agree.
+#[tactic(auto, using(crate::proofs::ExamplesOfFiles::runs_of_files))]
+pub fn runs_of_files()
+    ensures { RunsOfFiles }
+{}
+
+/// Every cause of an undefined operation, with its place in the second of two files.
+#[tactic(auto, using(crate::proofs::ExamplesOfUndefined::runs_of_undefined))]
+pub fn runs_of_undefined()
+    ensures { RunsOfUndefined }
+{}
+
+/// Two parts of a program that counts words.
+#[tactic(auto, using(crate::proofs::ExamplesOfWordCounter::runs_of_word_counter))]
+pub fn runs_of_word_counter()
+    ensures { RunsOfWordCounter }
+{}
+
+/// The meaning gives integer constant expressions the value that typing gives them.
+#[tactic(auto, using(crate::proofs::Constants::constants_keep_their_values))]
+pub fn constants_keep_their_values()
+    ensures { ConstantsKeepTheirValues }
 {}

@@ -1,12 +1,14 @@
-//! What C programs mean, as definitions: `specs/` has objects and their cells, the system calls,
-//! and the run of a program in a number of turns.
+//! What C programs mean: the operations that are undefined, and where they stand.
 #![tactic(auto)]
 
 mod laws;
 
 pub use laws::{
-    bind_is_associative, calls_take_turns, depth_is_enough, loops_follow, loops_last, output_grows,
-    runs_go_on, runs_of_form,
+    access_inverts, bind_is_associative, bodies_last, calls_take_turns,
+    constants_keep_their_values, depth_is_enough, input_falls, loops_follow, loops_last,
+    output_grows, runs_go_on, runs_of_calls, runs_of_expressions, runs_of_files,
+    runs_of_statements, runs_of_undefined, runs_of_word_counter, tested_loops_follow,
+    tested_loops_last,
 };
 
 /// An operation that C leaves undefined.

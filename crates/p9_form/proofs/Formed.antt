@@ -1,8 +1,8 @@
 -- What holds of a file whose tree has the form: its names, its numbers and its texts.
 use Rattle.std.proofs.Common.{◌≤◌, ℕ, ◌+◌, Bool, true, false, not, ◌&&◌, IsTrue, List, [], ◌∷◌, Option, Some, None}
 use Rattle.std.specs.List.{list_all}
-use Rattle.p9_lang.specs.Trees.{SyntaxRow, more, none}
-use Rattle.p9_lang.specs.Form.{is_among, is_variable_name, is_text_byte, IsOperand, IsSum, IsStatement, AreStatements, AreDeclarations, AreItems, IsFile}
+use Rattle.p9_first.specs.Trees.{SyntaxRow, more, none}
+use Rattle.p9_first.specs.Form.{is_among, is_variable_name, is_text_byte, IsOperand, IsSum, IsStatement, AreStatements, AreDeclarations, AreItems, IsFile}
 use Rattle.p9_form.specs.declared.file.Operand.{Operand}
 use Rattle.p9_form.specs.declared.file.Operand.TheVariants.{Variable, Number}
 use Rattle.p9_form.specs.declared.file.Statement.{Statement}

@@ -1,6 +1,6 @@
 -- Statements one after the other, up to a closing brace.
 use Rattle.std.proofs.Common.{◌≡◌, ℕ, ◌<◌, List, [], ◌∷◌, ◌++◌, length, length-append, Some, None, refl, ap, ◌∙◌, sym, subst, append_assoc, arith}
-use Rattle.p9_lang.specs.Tokens.{Token}
+use Rattle.p9_first.specs.Tokens.{Token}
 use Rattle.p9_form.specs.declared.file.Statement.{Statement}
 use Rattle.p9_form.specs.declared.file.Statement.TheVariants.{Assign, Write, Exits}
 use Rattle.p9_form.specs.Reading.{got, read_mark, read_statement}

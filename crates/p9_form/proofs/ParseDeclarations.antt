@@ -1,8 +1,8 @@
 -- What is read of declarations stands there and fits, and what fits is read.
 use Rattle.std.proofs.Common.{◌≡◌, ℕ, ◌≤◌, Bool, true, false, not, ◌&&◌, IsTrue, List, [], ◌∷◌, ◌++◌, Option, Some, None, refl, ap, ◌∙◌, sym, subst, codes}
 use Rattle.std.specs.Prelude.{if◌then◌else◌}
-use Rattle.p9_lang.specs.Tokens.{Token, Word, Number}
-use Rattle.p9_lang.specs.Form.{same_name, is_among, is_variable_name}
+use Rattle.p9_first.specs.Tokens.{Token, Word, Number}
+use Rattle.p9_first.specs.Form.{same_name, is_among, is_variable_name}
 use Rattle.p9_form.specs.declared.file.First.{First}
 use Rattle.p9_form.specs.declared.file.First.TheVariants as first
 use Rattle.p9_form.specs.declared.file.Declaration.{Declaration}

@@ -1,7 +1,7 @@
 -- Declarations one after the other.
 use Rattle.std.proofs.Common.{◌≡◌, ℕ, ◌<◌, Bool, true, false, not, ◌&&◌, List, [], ◌∷◌, ◌++◌, length, length-append, Some, None, refl, ap, ◌∙◌, sym, subst, append_assoc, arith}
-use Rattle.p9_lang.specs.Tokens.{Token, End}
-use Rattle.p9_lang.specs.Form.{is_among, is_variable_name}
+use Rattle.p9_first.specs.Tokens.{Token, End}
+use Rattle.p9_first.specs.Form.{is_among, is_variable_name}
 use Rattle.p9_form.specs.declared.file.First.{First}
 use Rattle.p9_form.specs.declared.file.First.TheVariants as first
 use Rattle.p9_form.specs.declared.file.Declaration.{Declaration}

@@ -2,9 +2,9 @@
 use Rattle.std.proofs.Common.{◌≡◌, ℕ, Bool, true, false, List, [], ◌∷◌, ◌++◌, Option, Some, None, Result, Ok, Err, IsSome, IfOk, refl, ap, ◌∙◌, subst, sym, arith}
 use Rattle.std.specs.Prelude.{IsSomeAnd}
 use Rattle.p9_base.specs.declared.bytes.NoMemory.{NoMemory}
-use Rattle.p9_lang.specs.Trees.{SyntaxRow}
-use Rattle.p9_lang.specs.Tokens.{Token, Word, Number, Character, Text, Mark, End, file_tokens}
-use Rattle.p9_lang.specs.Form.{IsFile}
+use Rattle.p9_first.specs.Trees.{SyntaxRow}
+use Rattle.p9_first.specs.Tokens.{Token, Word, Number, Character, Text, Mark, End, file_tokens}
+use Rattle.p9_first.specs.Form.{IsFile}
 use Rattle.p9_form.specs.declared.file.Operand.{Operand}
 use Rattle.p9_form.specs.declared.file.Operand.TheVariants as operand
 use Rattle.p9_form.specs.declared.file.Statement.{Statement}

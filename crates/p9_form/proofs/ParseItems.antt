@@ -1,12 +1,12 @@
 -- Each row of trees of the form is that of a file that fits.
 use Rattle.std.proofs.Common.{◌≡◌, ℕ, suc, ◌≤◌, Bool, true, false, not, ◌&&◌, IsTrue, List, [], ◌∷◌, ◌++◌, Option, Some, None, refl, ap, ◌∙◌, sym, subst, append_assoc, append-nil, codes, flat_map, ◌⊎◌, inl, inr}
-use Rattle.p9_lang.specs.declared.tree.CBinary.TheVariants as operator
-use Rattle.p9_lang.specs.declared.tree.SpecWord.{SpecWord}
-use Rattle.p9_lang.specs.declared.tree.SpecWord.TheVariants as word
-use Rattle.p9_lang.specs.declared.tree.Kind.TheVariants as kind
-use Rattle.p9_lang.specs.Trees.{node, none, more, Syntax, SyntaxRow}
-use Rattle.p9_lang.specs.Tokens.{Token, Word, Number, Text, End, spec_tokens, tokens, tokens_from, file_tokens}
-use Rattle.p9_lang.specs.Form.{IsVariable, IsOperand, IsSum, Names, IsExactly, IsText, IsExitText, IsEffect, IsStatement, AreStatements, IsNumberType, IsVariableHead, IsNewName, IsNumber, IsDeclaration, IsMainHead, IsBody, IsMain, is_among, is_variable_name, names_after, name_in, AreDeclarations, AreItems, IsFile}
+use Rattle.p9_first.specs.declared.tree.CBinary.TheVariants as operator
+use Rattle.p9_first.specs.declared.tree.SpecWord.{SpecWord}
+use Rattle.p9_first.specs.declared.tree.SpecWord.TheVariants as word
+use Rattle.p9_first.specs.declared.tree.Kind.TheVariants as kind
+use Rattle.p9_first.specs.Trees.{node, none, more, Syntax, SyntaxRow}
+use Rattle.p9_first.specs.Tokens.{Token, Word, Number, Text, End, spec_tokens, tokens, tokens_from, file_tokens}
+use Rattle.p9_first.specs.Form.{IsVariable, IsOperand, IsSum, Names, IsExactly, IsText, IsExitText, IsEffect, IsStatement, AreStatements, IsNumberType, IsVariableHead, IsNewName, IsNumber, IsDeclaration, IsMainHead, IsBody, IsMain, is_among, is_variable_name, names_after, name_in, AreDeclarations, AreItems, IsFile}
 use Rattle.p9_form.specs.declared.file.Operand.{Operand}
 use Rattle.p9_form.specs.declared.file.Operand.TheVariants as operand
 use Rattle.p9_form.specs.declared.file.Statement.{Statement}

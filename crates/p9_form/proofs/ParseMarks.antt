@@ -3,8 +3,8 @@ use Rattle.std.proofs.Common.{◌≡◌, ℕ, ◌≤◌, Bool, true, false, ◌&
 use Rattle.std.specs.Prelude.{if◌then◌else◌, nat_le}
 use Rattle.std.specs.List.{list_all}
 use Rattle.std.proofs.lemmas.Bool.Decides.{nat_tests}
-use Rattle.p9_lang.specs.Tokens.{Token, Word, Number, Text, Mark}
-use Rattle.p9_lang.specs.Form.{same_name, is_text_byte}
+use Rattle.p9_first.specs.Tokens.{Token, Word, Number, Text, Mark}
+use Rattle.p9_first.specs.Form.{same_name, is_text_byte}
 use Rattle.p9_form.specs.Reading.{Got, got, after, is_that_mark, read_mark, read_word, read_number, read_text, is_that_word, read_this}
 use Rattle.p9_form.specs.Phrases.{mark}
 

@@ -4,7 +4,7 @@ use Rattle.std.specs.List.{list_any}
 use Rattle.std.specs.Str.{bytes_eq}
 use Rattle.std.proofs.lemmas.List.{reverse-append}
 use Rattle.indexmap.specs.IndexSet.{insert_key}
-use Rattle.p9_lang.specs.Form.{is_among}
+use Rattle.p9_first.specs.Form.{is_among}
 use Rattle.p9_form.proofs.ParseSteps.{same_bytes}
 
 or_append : (p : List ℕ → Bool) (xs ys : List (List ℕ)) → list_any p (xs ++ ys) ≡ (list_any p xs || list_any p ys)

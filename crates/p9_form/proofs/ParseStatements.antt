@@ -2,8 +2,8 @@
 use Rattle.std.proofs.Common.{◌≡◌, ℕ, Bool, true, false, ◌==◌, IsTrue, List, [], ◌∷◌, ◌++◌, Option, Some, None, refl, ap, ◌∙◌, sym, subst, append_assoc, codes}
 use Rattle.std.specs.Prelude.{if◌then◌else◌, nat_le}
 use Rattle.std.specs.List.{list_all}
-use Rattle.p9_lang.specs.Tokens.{Token, Word, Number, Text}
-use Rattle.p9_lang.specs.Form.{same_name, is_among, is_text_byte}
+use Rattle.p9_first.specs.Tokens.{Token, Word, Number, Text}
+use Rattle.p9_first.specs.Form.{same_name, is_among, is_text_byte}
 use Rattle.p9_form.specs.declared.file.Operand.{Operand}
 use Rattle.p9_form.specs.declared.file.Operand.TheVariants as operand
 use Rattle.p9_form.specs.declared.file.Statement.{Statement}

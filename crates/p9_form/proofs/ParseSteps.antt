@@ -1,7 +1,7 @@
 -- Steps of a reader, and tests of names.
 use Rattle.std.proofs.Common.{◌≡◌, ℕ, ◌&&◌, ◌==◌, List, [], ◌∷◌, Option, Some, None, refl, ap}
 use Rattle.std.specs.Str.{bytes_eq}
-use Rattle.p9_lang.specs.Form.{same_name}
+use Rattle.p9_first.specs.Form.{same_name}
 use Rattle.p9_form.specs.Reading.{after}
 
 pub after_some : {A B : Type 0} (o : Option A) (next : A → Option B) (x : A) → o ≡ Some x → after o next ≡ next x

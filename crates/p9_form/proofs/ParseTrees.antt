@@ -1,9 +1,9 @@
 -- The trees of a file that was read: they have the form, are placed, and are written in its tokens.
 use Rattle.std.proofs.Common.{◌≡◌, ℕ, suc, ◌+◌, Bool, true, false, not, ◌&&◌, IsTrue, List, [], ◌∷◌, ◌++◌, length, length-append, Option, Some, None, refl, ap, ◌∙◌, sym, subst, append_assoc, append-nil, codes, arith}
-use Rattle.p9_lang.specs.declared.tree.Kind.TheVariants as kind
-use Rattle.p9_lang.specs.Trees.{none, more, SyntaxRow}
-use Rattle.p9_lang.specs.Tokens.{Token, Word, Number, Text, End, tokens, tokens_from, file_tokens}
-use Rattle.p9_lang.specs.Form.{IsOperand, IsSum, IsStatement, AreStatements, IsDeclaration, AreDeclarations, AreItems, IsPlaced, ArePlaced, AreItemsPlaced, IsFile, is_among, is_variable_name}
+use Rattle.p9_first.specs.declared.tree.Kind.TheVariants as kind
+use Rattle.p9_first.specs.Trees.{none, more, SyntaxRow}
+use Rattle.p9_first.specs.Tokens.{Token, Word, Number, Text, End, tokens, tokens_from, file_tokens}
+use Rattle.p9_first.specs.Form.{IsOperand, IsSum, IsStatement, AreStatements, IsDeclaration, AreDeclarations, AreItems, IsPlaced, ArePlaced, AreItemsPlaced, IsFile, is_among, is_variable_name}
 use Rattle.p9_form.specs.declared.file.Operand.{Operand}
 use Rattle.p9_form.specs.declared.file.Operand.TheVariants as operand
 use Rattle.p9_form.specs.declared.file.Statement.{Statement}

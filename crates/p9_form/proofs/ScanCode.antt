@@ -1,7 +1,7 @@
 -- The reading of a file in the words of the code, which cuts slices.
 use Rattle.std.proofs.Common.{◌≡◌, ℕ, ◌-◌, ◌<◌, ◌≤◌, List, [], ◌∷◌, ◌++◌, length, take, drop, get_or, Option, Some, None, refl, sym, ap, subst, ◌∙◌, length-append, length-drop, arith}
 use Rattle.std.proofs.Math.Seq.{take-length}
-use Rattle.p9_lang.specs.Tokens.{Token}
+use Rattle.p9_first.specs.Tokens.{Token}
 use Rattle.p9_form.specs.declared.token.Token as code
 use Rattle.p9_form.specs.declared.token.Token.TheVariants as variant
 use Rattle.p9_form.specs.declared.scan.Found.{Found}

@@ -3,7 +3,7 @@ use Rattle.std.proofs.Common.{◌≡◌, ℕ, ◌+◌, ◌≤◌, true, false, L
 use Rattle.std.proofs.Math.Seq.{drop-append_seam}
 use Rattle.std.proofs.lemmas.Bool.{cond-true, cond-false}
 use Rattle.std.proofs.lemmas.List.Elements.{All-nil, All-cons, All-head, All-tail, All-append}
-use Rattle.p9_lang.specs.Tokens.{Token, Word, Number, Character, Text, Mark, End}
+use Rattle.p9_first.specs.Tokens.{Token, Word, Number, Character, Text, Mark, End}
 use Rattle.p9_form.specs.declared.scan.Found.{Found}
 use Rattle.p9_form.specs.Spelling.{is_blank, AreBlanks, IsSpelling, EndsBefore, Spells}
 use Rattle.p9_form.specs.Scanning.{token_seen, IsFormToken, AreFormTokens, weights, after_blanks, token_at}

@@ -3,7 +3,7 @@ use Rattle.std.proofs.Common.{◌≡◌, ℕ, ◌+◌, true, false, not, eqb, eq
 use Rattle.std.specs.List.{list_all}
 use Rattle.std.proofs.lemmas.Bool.{and_parts, and_from, not-true, not_from_false, cond-true, cond-false, cases_Bool}
 use Rattle.std.proofs.lemmas.Bool.Decides.{nat_tests}
-use Rattle.p9_lang.specs.Form.{is_text_byte}
+use Rattle.p9_first.specs.Form.{is_text_byte}
 use Rattle.p9_form.specs.declared.scan.Quoted.{Quoted}
 use Rattle.p9_form.specs.Spelling.{text_spelling}
 use Rattle.p9_form.specs.Scanning.{is_plain, with_byte, quoted_from}

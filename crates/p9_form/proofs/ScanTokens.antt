@@ -4,8 +4,8 @@ use Rattle.std.specs.List.{list_all}
 use Rattle.std.proofs.Math.Seq.{take-append_seam}
 use Rattle.std.proofs.lemmas.Bool.{and_parts, and_from, or_cases, or_right, cond-true, cond-false, false_from_ne_true, true≢false}
 use Rattle.std.proofs.lemmas.Bool.Decides.{nat_tests}
-use Rattle.p9_lang.specs.Tokens.{Token, Word, Number, Character, Text, Mark, End}
-use Rattle.p9_lang.specs.Form.{is_letter, is_letter_or_digit, is_text_byte}
+use Rattle.p9_first.specs.Tokens.{Token, Word, Number, Character, Text, Mark, End}
+use Rattle.p9_first.specs.Form.{is_letter, is_letter_or_digit, is_text_byte}
 use Rattle.p9_form.specs.declared.token.Token.TheVariants as variant
 use Rattle.p9_form.specs.declared.scan.Found.{Found}
 use Rattle.p9_form.specs.declared.scan.Quoted.{Quoted}

@@ -1,6 +1,6 @@
 -- What a parser finds: statements up to a closing brace, declarations, `main`, and a whole file.
 use Rattle.std.specs.Prelude.{◌≡◌, ℕ, Bool, true, false, ◌||◌, List, [], ◌∷◌, ◌++◌, Option, Some, None, codes}
-use Rattle.p9_lang.specs.Tokens.{Token, End}
+use Rattle.p9_first.specs.Tokens.{Token, End}
 use Rattle.p9_form.specs.declared.file.Statement.{Statement}
 use Rattle.p9_form.specs.declared.file.Declaration.{Declaration}
 use Rattle.p9_form.specs.declared.file.File.{File}

@@ -1,8 +1,8 @@
 -- The parts of a file of the form: how they are written in tokens, and which fit their place.
 use Rattle.std.specs.Prelude.{◌≡◌, ◌≤◌, ℕ, Bool, true, false, not, ◌&&◌, IsTrue, List, [], ◌∷◌, ◌++◌, Option, Some, None, codes}
 use Rattle.std.specs.List.{list_all}
-use Rattle.p9_lang.specs.Tokens.{Token, Word, Number, Text, Mark, End}
-use Rattle.p9_lang.specs.Form.{is_among, is_text_byte, is_variable_name}
+use Rattle.p9_first.specs.Tokens.{Token, Word, Number, Text, Mark, End}
+use Rattle.p9_first.specs.Form.{is_among, is_text_byte, is_variable_name}
 use Rattle.p9_form.specs.declared.file.Operand.{Operand}
 use Rattle.p9_form.specs.declared.file.Operand.TheVariants as operand
 use Rattle.p9_form.specs.declared.file.Statement.{Statement}

@@ -1,8 +1,8 @@
 -- How the parts of a file are read from the front of its tokens.
 use Rattle.std.specs.Prelude.{ℕ, Bool, true, false, not, ◌&&◌, ◌==◌, nat_le, if◌then◌else◌, List, [], ◌∷◌, Option, Some, None, codes}
 use Rattle.std.specs.List.{list_all}
-use Rattle.p9_lang.specs.Tokens.{Token, Word, Number, Text, Mark}
-use Rattle.p9_lang.specs.Form.{is_among, same_name, is_text_byte, is_variable_name}
+use Rattle.p9_first.specs.Tokens.{Token, Word, Number, Text, Mark}
+use Rattle.p9_first.specs.Form.{is_among, same_name, is_text_byte, is_variable_name}
 use Rattle.p9_form.specs.declared.file.Operand.{Operand}
 use Rattle.p9_form.specs.declared.file.Operand.TheVariants as operand
 use Rattle.p9_form.specs.declared.file.First.{First}

@@ -1,7 +1,7 @@
 -- The tokens of a file of the form, and how they are found in its bytes.
 use Rattle.std.specs.Prelude.{◌≡◌, ◌≤◌, ℕ, ◌+◌, ◌-◌, ◌*◌, Bool, true, false, not, ◌&&◌, ◌||◌, ◌==◌, nat_le, if◌then◌else◌, IsTrue, List, [], ◌∷◌, length, map, take, Option, Some, None}
-use Rattle.p9_lang.specs.Tokens.{Token, Word, Number, Character, Text, Mark, End}
-use Rattle.p9_lang.specs.Form.{is_letter, is_letter_or_digit, is_text_byte}
+use Rattle.p9_first.specs.Tokens.{Token, Word, Number, Character, Text, Mark, End}
+use Rattle.p9_first.specs.Form.{is_letter, is_letter_or_digit, is_text_byte}
 use Rattle.p9_form.specs.declared.token.Token as code
 use Rattle.p9_form.specs.declared.token.Token.TheVariants as variant
 use Rattle.p9_form.specs.declared.scan.Found.{Found}

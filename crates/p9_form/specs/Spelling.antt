@@ -2,9 +2,9 @@
 -- stand between.
 use Rattle.std.specs.Prelude.{◌≡◌, ◌≤◌, ℕ, Bool, false, ◌&&◌, ◌||◌, ◌==◌, if◌then◌else◌, IsTrue, List, [], ◌∷◌, ◌++◌, length, flat_map, All, decimal}
 use Rattle.std.specs.List.{list_all}
-use Rattle.p9_lang.specs.Trees.{SyntaxRow}
-use Rattle.p9_lang.specs.Tokens.{Token, Word, Number, Character, Text, Mark, End, file_tokens}
-use Rattle.p9_lang.specs.Form.{is_letter, is_letter_or_digit, is_text_byte, IsFile}
+use Rattle.p9_first.specs.Trees.{SyntaxRow}
+use Rattle.p9_first.specs.Tokens.{Token, Word, Number, Character, Text, Mark, End, file_tokens}
+use Rattle.p9_first.specs.Form.{is_letter, is_letter_or_digit, is_text_byte, IsFile}
 
 abbrev pub is_blank : ℕ → Bool
 is_blank b = b == 32 || (b == 9 || b == 10)

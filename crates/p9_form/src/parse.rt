@@ -1,8 +1,8 @@
 // From tokens to a file.
 ghost use Rattle.std.specs.Prelude.{◌≡◌, ◌≤◌, Some, None, IfOk, IfErr, IfSome, IsSome};
-ghost use Rattle.p9_lang.specs.Trees.{SyntaxRow};
-ghost use Rattle.p9_lang.specs.Tokens.{file_tokens};
-ghost use Rattle.p9_lang.specs.Form.{IsFile};
+ghost use Rattle.p9_first.specs.Trees.{SyntaxRow};
+ghost use Rattle.p9_first.specs.Tokens.{file_tokens};
+ghost use Rattle.p9_first.specs.Form.{IsFile};
 ghost use Rattle.p9_form.specs.Items.{items_of};
 ghost use Rattle.p9_form.specs.Sharing.{IsSmall};
 ghost use Rattle.p9_form.specs.Scanning.{seen, weights};

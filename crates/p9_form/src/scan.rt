@@ -1,9 +1,9 @@
 // From the bytes of a file to its tokens.
 ghost use Rattle.std.specs.Prelude.{◌≡◌, ◌≤◌, ◌<◌, ◌+◌, ◌^◌, false, List, [], ◌∷◌, ◌++◌, length, IsTrue, IfOk, OnOk, IfSome, IsSomeAnd, Some};
-ghost use Rattle.p9_lang.specs.Form.{is_letter, is_letter_or_digit};
+ghost use Rattle.p9_first.specs.Form.{is_letter, is_letter_or_digit};
 ghost use Rattle.p9_form.specs.Spelling.{is_blank, Spells};
 ghost use Rattle.p9_form.specs.Scanning.{seen, is_mark, AreFormTokens, weights, after_blanks, run_length, is_digit, number_after, number_of, is_plain, quoted_from, found_word, found_number, found_text, token_at};
-ghost use Rattle.p9_lang.specs.Tokens as tree;
+ghost use Rattle.p9_first.specs.Tokens as tree;
 
 use crate::token::{Token, Tokens};
 use p9_base::{Bytes, NoMemory};

@@ -1,4 +1,9 @@
-pub mod Nodes
-pub mod Sources
 pub mod Examples
-pub mod Labels
+pub mod Layouts
+pub mod Settling
+pub mod Agreeing
+pub mod Growing
+pub mod Bodies
+pub mod Marks
+pub mod Counting
+pub mod Placing

@@ -1,7 +1,9 @@
--- Types of C, and what a node stands for, as plain data.
-use Rattle.std.specs.Prelude.{ℕ, List, [], ◌∷◌}
+-- Types of C, the structures and unions that they name, and what a node stands for, as plain data.
+use Rattle.std.specs.Prelude.{ℕ, Bool, List, [], ◌∷◌, Option, Some, None}
 use Rattle.p9_lang.specs.declared.types.CType.{CType, fold-CType}
 use Rattle.p9_lang.specs.declared.types.CType.TheOpen.{CType-F}
+use Rattle.p9_lang.specs.declared.types.Member.{Member}
+use Rattle.p9_lang.specs.declared.types.Tag.{Tag}
 use Rattle.p9_lang.specs.declared.module.Bind.{Bind}
 use Rattle.p9_lang.specs.declared.module.Bind.TheVariants as bind
 
@@ -25,11 +27,42 @@ mutual
     none : TypeRow
     more : (first : TypeTree) (others : TypeRow) → TypeRow
 
--- The types of the program as such trees
+-- a member; an unnamed substructure has an empty name
+pub record MemberTree : Type 0 where
+  pub name : List ℕ
+  pub type : TypeTree
+
+-- A structure or union: without a tag its name is empty, without a body it has no members. It may
+-- be marked as incomplete. Types name it by its number in the list of its module's.
+pub record TagTree : Type 0 where
+  pub is_union : Bool
+  pub name : List ℕ
+  pub members : Option (List MemberTree)
+  pub is_marked : Bool
+
+abbrev pub Tags : Type 0
+Tags = List TagTree
+
+abbrev pub row_types : TypeRow → List TypeTree
+row_types none = []
+row_types (more first others) = first ∷ row_types others
 
 abbrev pub type_row : List TypeTree → TypeRow
 type_row [] = none
 type_row (first ∷ others) = more first (type_row others)
+
+-- What a node stands for: nothing, an object or function of file scope by its name, a text or
+-- block static by its number in the file, an automatic by its number in the function, the value of
+-- an enumeration constant, or a type.
+pub data Meant : Type 0 where
+  Nothing : Meant
+  Outer : (name : List ℕ) → Meant
+  Static : (number : ℕ) → Meant
+  Auto : (number : ℕ) → Meant
+  EnumValue : (value : ℕ) → Meant
+  TypeName : (type : TypeTree) → Meant
+
+-- The types of the program as such trees
 
 abbrev pub type_step : CType-F TypeTree → TypeTree
 type_step CType-F.Void = Void
@@ -53,16 +86,23 @@ abbrev pub types_of : List CType → List TypeTree
 types_of [] = []
 types_of (t ∷ ts) = type_of t ∷ types_of ts
 
--- What a node stands for: nothing, an object or function of file scope by its name, a text or
--- block static by its number in the file, an automatic by its number in the function, the value of
--- an enumeration constant, or a type.
-pub data Meant : Type 0 where
-  Nothing : Meant
-  Outer : (name : List ℕ) → Meant
-  Static : (number : ℕ) → Meant
-  Auto : (number : ℕ) → Meant
-  EnumValue : (value : ℕ) → Meant
-  TypeName : (type : TypeTree) → Meant
+abbrev pub member_of : Member → MemberTree
+member_of m = record { name = m.name; type = type_of m.ty }
+
+abbrev pub members_of : List Member → List MemberTree
+members_of [] = []
+members_of (m ∷ ms) = member_of m ∷ members_of ms
+
+abbrev pub body_of : Option (List Member) → Option (List MemberTree)
+body_of None = None
+body_of (Some ms) = Some (members_of ms)
+
+abbrev pub tag_of : Tag → TagTree
+tag_of t = record { is_union = t.is_union; name = t.name; members = body_of t.members; is_marked = t.marked }
+
+abbrev pub tags_of : List Tag → Tags
+tags_of [] = []
+tags_of (t ∷ ts) = tag_of t ∷ tags_of ts
 
 abbrev pub meant : Bind → Meant
 meant bind.Nothing = Nothing

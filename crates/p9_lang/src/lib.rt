@@ -1,6 +1,5 @@
-//! The language: types of C, trees of a file, and modules, which are trees with a type and a bind
-//! for each node. `specs/` says how a tree is written in tokens, which trees are well formed, what
-//! type each node has, and which symbols a module has.
+//! The language: types of C, trees of a file, and modules, which are trees with a type and a
+//! bind for each node; in `specs/` what the types mean: layout, typing, modules.
 #![tactic(auto)]
 
 mod ident;
@@ -12,7 +11,11 @@ mod tree;
 mod types;
 
 pub use ident::Ident;
-pub use laws::small_file_of_form;
+pub use laws::{
+    agreement_examples, agreement_is_decided, each_node_is_typed, layout_examples,
+    layout_is_that_of_members, layouts_stay, members_are_placed, refusals, sizes_stay,
+    structures_end, typed_files, word_examples,
+};
 pub use module::{Bind, Module};
 pub use tree::{CBinary, CUnary, EntryBy, Kind, Node, Spec, SpecWord, Tree};
 pub use types::{CType, Member, Tag, Tags};

@@ -4,10 +4,11 @@ use Rattle.std.specs.Cmp.Lexicographic.{bytes_decides}
 use Rattle.p9_abs.specs.declared.modules.Symbol.{Symbol}
 use Rattle.p9_abs.specs.declared.modules.AModule.{AModule}
 use Rattle.p9_abs.specs.Modules.{size_of}
-use Rattle.p9_names.specs.declared.table.Def.{Def}
+use Rattle.p9_abs.specs.declared.modules.Def.{Def}
 use Rattle.p9_names.specs.declared.rules.Rule.TheVariants.{Agreement}
 use Rattle.p9_names.specs.Rules.{is_empty, signatures_differ, sizes_differ, differ, breaks}
-use Rattle.p9_names.specs.Linking.{symbol_at, Occurs, IsKept}
+use Rattle.p9_abs.specs.Names.{symbol_at, Occurs}
+use Rattle.p9_names.specs.Linking.{IsKept}
 use Rattle.p9_names.specs.Passes.{held_at, held_breaks, breaks_at, put_entry, note_entry, note_first, has_size, meets}
 use Rattle.p9_names.proofs.Lists.{Among, among-push, among-last, among-pushed, among-left, among-right, sorted-total, find-none}
 use Rattle.p9_names.proofs.Breaking.{IsListing, KeptOn, IsClear, and-left, and-right, same_symbol, holds-at, holds-some, not_both, is_true_or_false, or-left_false, or-right_false, kept-push, kept-all, before-module}

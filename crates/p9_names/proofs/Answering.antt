@@ -8,65 +8,26 @@ use Rattle.p9_abs.specs.declared.modules.Symbol.{Symbol}
 use Rattle.p9_abs.specs.declared.modules.AModule.{AModule}
 use Rattle.p9_abs.specs.Modules.{size_of}
 use Rattle.p9_abs.specs.Validity.{IsValid, AreApart, HasSizeInRange}
-use Rattle.p9_names.specs.declared.table.Def.{Def}
+use Rattle.p9_abs.specs.declared.modules.Def.{Def}
 use Rattle.p9_names.specs.Rules.{is_main, main_name}
-use Rattle.p9_names.specs.Linking.{symbol_at, IsKept, Defines, IsUndefined, IsFirstDefinition, HasMain, HasWrongMain, Uses, AllResolved, IsUnresolved, IsFirstUnresolved, IsChosen, IsTable}
-use Rattle.p9_names.specs.BuiltIn.{builtin_module, builtin_symbols}
+use Rattle.p9_abs.specs.Names.{symbol_at, Defines, IsUndefined, IsFirstDefinition, IsChosen}
+use Rattle.p9_names.specs.Linking.{IsKept, HasMain, HasWrongMain, Uses, AllResolved, IsUnresolved, IsFirstUnresolved, IsTable}
+use Rattle.p9_abs.specs.BuiltIn.{builtin_module, builtin_symbols, linked}
+use Rattle.p9_abs.proofs.BuiltInValid.{builtin_valid}
 use Rattle.p9_names.specs.declared.table.LinkFault.{LinkFault}
 use Rattle.p9_names.specs.declared.table.LinkFault.TheVariants.{Twice, NoMain, MainType, Unresolved, Disagree, Memory}
 use Rattle.p9_names.specs.declared.rules.Rule.TheVariants.{Once, Agreement}
-use Rattle.p9_names.specs.Answers.{linked, Joins, IsRefusal}
-use Rattle.p9_names.specs.Passes.{AreLinkable, ArePlaces, IsTwice, IsMainFault, IsUseFault, IsDisagreement, globals_of, uses_of, is_missing, defines}
+use Rattle.p9_names.specs.Answers.{Joins, IsRefusal}
+use Rattle.p9_names.specs.Passes.{AreLinkable, ArePlaces, IsTwice, IsMainFault, IsUseFault, IsDisagreement, globals_of, uses_of, is_missing, defines, is_global_use}
 use Rattle.p9_names.proofs.Lists.{slice_get-some, find-some, find-none, find-first}
 use Rattle.p9_names.proofs.Listing.{stands-in, listing, global-places, use-places, use-sound, use-complete, from-sorted}
-use Rattle.p9_names.specs.Passes.{is_global_use}
 use Rattle.p9_names.proofs.Breaking.{same_symbol, holds-at, and-left, and-right, first-definition, no-definition}
 use Rattle.p9_names.proofs.Chosen.{bytes-apart}
 
 -- The modules that are linked
 
--- no two of the names are the same, as a test
-abbrev all_apart : List Symbol → Bool
-all_apart [] = true
-all_apart (s ∷ rest) = list_all (λ t. not (bytes_eq s.name t.name)) rest && all_apart rest
-
-not-true : (b : Bool) → not b ≡ true → b ≡ false
-not-true true h = absurd (true≢false (sym h))
-not-true false h = refl
-
-one-apart : (s : Symbol) (rest : List Symbol) → list_all (λ t. not (bytes_eq s.name t.name)) rest ≡ true → (j : ℕ) (z : Symbol) → j < length rest → AreApart s (slice_index_or rest j z)
-one-apart s [] h j z lt = absurd (omega arith)
-one-apart s (t ∷ rest) h zero z lt = λ same. bytes-apart s.name t.name (not-true (bytes_eq s.name t.name) (and-left (not (bytes_eq s.name t.name)) (list_all (λ t. not (bytes_eq s.name t.name)) rest) h))
-one-apart s (t ∷ rest) h (suc j) z lt = one-apart s rest (and-right (not (bytes_eq s.name t.name)) (list_all (λ t. not (bytes_eq s.name t.name)) rest) h) j z (omega arith)
-
-pairs-apart : (symbols : List Symbol) → all_apart symbols ≡ true → AllPairs AreApart symbols
-pairs-apart [] h i j z lt within = absurd (omega arith)
-pairs-apart (s ∷ rest) h i zero z lt within = absurd (omega arith)
-pairs-apart (s ∷ rest) h zero (suc j) z lt within = one-apart s rest (and-left (list_all (λ t. not (bytes_eq s.name t.name)) rest) (all_apart rest) h) j z (omega arith)
-pairs-apart (s ∷ rest) h (suc i) (suc j) z lt within = pairs-apart rest (and-right (list_all (λ t. not (bytes_eq s.name t.name)) rest) (all_apart rest) h) i j z (omega arith) (omega arith)
-
-builtin-apart : AllPairs AreApart builtin_symbols
-builtin-apart = pairs-apart builtin_symbols refl
-
 abbrev Sized : Symbol → Type 0
 Sized s = HasSizeInRange s.body
-
-abbrev size-in : Option ℕ → Bool
-size-in None = true
-size-in (Some n) = leb 1 n && leb n 16777216
-
-size-holds : (o : Option ℕ) → size-in o ≡ true → IfSome o (λ n. (1 ≤ n) × (n ≤ 16777216))
-size-holds None h = tt
-size-holds (Some n) h = (leb-true 1 n (and-left (leb 1 n) (leb n 16777216) h), leb-true n 16777216 (and-right (leb 1 n) (leb n 16777216) h))
-
-all-sized : (symbols : List Symbol) → list_all (λ s. size-in (size_of s.body)) symbols ≡ true → All Sized symbols
-all-sized [] h = All-nil Sized
-all-sized (s ∷ rest) h =
-    All-cons Sized s rest (size-holds (size_of s.body) (and-left (size-in (size_of s.body)) (list_all (λ s. size-in (size_of s.body)) rest) h))
-    (all-sized rest (and-right (size-in (size_of s.body)) (list_all (λ s. size-in (size_of s.body)) rest) h))
-
-builtin-sized : All Sized builtin_symbols
-builtin-sized = all-sized builtin_symbols refl
 
 sized-at : (ms : List AModule) → All (λ m. All Sized m.symbols) ms → (d : Def) (s : Symbol) → symbol_at ms d ≡ Some s → Sized s
 sized-at ms all d s at =
@@ -81,8 +42,8 @@ pub linkable : (modules : List AModule) → All IsValid modules → length modul
 linkable modules valid count small = record {
   count = omega (arith, length-append modules (builtin_module ∷ []));
   small = All-push (λ m. length m.symbols < 2 ^ 32) modules builtin_module small (lit< tt);
-  distinct = All-push (λ m. AllPairs AreApart m.symbols) modules builtin_module (All-weaker IsValid (λ m. AllPairs AreApart m.symbols) (λ m v. v.distinct) modules valid) builtin-apart;
-  sized = sized-at (linked modules) (All-push (λ m. All Sized m.symbols) modules builtin_module (All-weaker IsValid (λ m. All Sized m.symbols) (λ m v. v.sizes) modules valid) builtin-sized);
+  distinct = All-push (λ m. AllPairs AreApart m.symbols) modules builtin_module (All-weaker IsValid (λ m. AllPairs AreApart m.symbols) (λ m v. v.distinct) modules valid) builtin_valid.distinct;
+  sized = sized-at (linked modules) (All-push (λ m. All Sized m.symbols) modules builtin_module (All-weaker IsValid (λ m. All Sized m.symbols) (λ m v. v.sizes) modules valid) builtin_valid.sizes);
 }
 
 same-linked : (ms modules : List AModule) (last : AModule) → ms ≡ modules ++ last ∷ [] → last ≡ builtin_module → linked modules ≡ ms

@@ -4,10 +4,11 @@ use Rattle.std.specs.Cmp.Lexicographic.{bytes_decides}
 use Rattle.p9_abs.specs.declared.modules.Symbol.{Symbol}
 use Rattle.p9_abs.specs.declared.modules.AModule.{AModule}
 use Rattle.p9_abs.specs.Modules.{is_definition}
-use Rattle.p9_names.specs.declared.table.Def.{Def}
+use Rattle.p9_abs.specs.declared.modules.Def.{Def}
 use Rattle.p9_names.specs.declared.rules.Rule.{Rule}
 use Rattle.p9_names.specs.Rules.{breaks}
-use Rattle.p9_names.specs.Linking.{symbol_at, Occurs, IsBefore, IsNotAfter, Defines, Conflicts, IsFirstConflict, IsKept, IsFirstDefinition, IsUndefined}
+use Rattle.p9_abs.specs.Names.{symbol_at, Occurs, IsBefore, IsNotAfter, Defines, IsFirstDefinition, IsUndefined}
+use Rattle.p9_names.specs.Linking.{Conflicts, IsFirstConflict, IsKept}
 use Rattle.p9_names.specs.Passes.{holds_at, meets, defines, FindsConflict}
 use Rattle.p9_names.proofs.Lists.{Among, Sorted, before-irrefl, before-trans, among-split, among-pushed, among-left, among-right, sorted-apart, sorted-left, sorted-right, find-some, find-none, find-first}
 

@@ -6,11 +6,12 @@ use Rattle.p9_abs.specs.declared.modules.Body.{Body}
 use Rattle.p9_abs.specs.declared.modules.Body.TheVariants.{Declared, Used, Text, Data, Common}
 use Rattle.p9_abs.specs.declared.modules.Symbol.{Symbol}
 use Rattle.p9_abs.specs.declared.modules.AModule.{AModule}
-use Rattle.p9_abs.specs.Modules.{is_definition}
-use Rattle.p9_names.specs.declared.table.Def.{Def}
+use Rattle.p9_abs.specs.Modules.{is_definition, is_full, is_text}
+use Rattle.p9_abs.specs.declared.modules.Def.{Def}
 use Rattle.p9_names.specs.declared.rules.Rule.TheVariants.{Once}
-use Rattle.p9_names.specs.Rules.{clash, is_full, is_text, breaks}
-use Rattle.p9_names.specs.Linking.{symbol_at, Occurs, Defines, IsBefore, IsNotAfter, IsFirstDefinition, IsChosen, IsDefinedBefore, IsTable, IsKept}
+use Rattle.p9_names.specs.Rules.{clash, breaks}
+use Rattle.p9_abs.specs.Names.{symbol_at, Occurs, Defines, IsBefore, IsNotAfter, IsFirstDefinition, IsChosen}
+use Rattle.p9_names.specs.Linking.{IsDefinedBefore, IsTable, IsKept}
 use Rattle.p9_names.specs.Passes.{held_at, held_breaks, breaks_at, put_entry, note_entry, takes_place, meets}
 use Rattle.p9_names.proofs.Lists.{Among, before-irrefl, before-trans, among-push, among-last, among-pushed, among-left, among-right, sorted-apart, sorted-total, find-none}
 use Rattle.p9_names.proofs.Breaking.{IsListing, KeptOn, IsClear, and-left, and-right, same_symbol, holds-at, holds-some, not_both, is_true_or_false, kept-push, kept-all, before-module}

@@ -2,19 +2,20 @@
 use Rattle.std.proofs.Common.{◌≡◌, ◌≢◌, ℕ, ◌<◌, ◌≤◌, ◌⊎◌, inl, inr, Bool, true, false, List, Option, Some, Result, Ok, Err, IsOk, IfOk, IfErr, refl, sym, ap, subst, ◌∙◌, arith, true≢false}
 use Rattle.p9_abs.specs.declared.modules.Symbol.{Symbol}
 use Rattle.p9_abs.specs.declared.modules.AModule.{AModule}
-use Rattle.p9_names.specs.declared.table.Def.{Def}
+use Rattle.p9_abs.specs.declared.modules.Def.{Def}
 use Rattle.p9_names.specs.declared.table.Table.{Table}
 use Rattle.p9_names.specs.declared.table.LinkFault.{LinkFault}
 use Rattle.p9_names.specs.declared.table.LinkFault.TheVariants.{Twice, NoMain, MainType, Unresolved, Disagree, Memory}
 use Rattle.p9_names.specs.declared.rules.Rule.{Rule}
 use Rattle.p9_names.specs.declared.rules.Rule.TheVariants.{Once, Agreement}
 use Rattle.p9_names.specs.Rules.{is_main}
-use Rattle.p9_names.specs.Linking.{symbol_at, IsBefore, IsNotAfter, IsKept, IsFirstConflict, HasMain, HasWrongMain, AllResolved, IsFirstUnresolved, IsFirstDefinition}
+use Rattle.p9_abs.specs.Names.{symbol_at, IsBefore, IsNotAfter, IsFirstDefinition}
+use Rattle.p9_names.specs.Linking.{IsKept, IsFirstConflict, HasMain, HasWrongMain, AllResolved, IsFirstUnresolved}
 use Rattle.p9_names.specs.Answers.{Joins, IsRefusal}
 use Rattle.p9_names.proofs.Lists.{before-irrefl, before-trans}
 use Rattle.p9_names.proofs.Breaking.{same_symbol, not_both}
 
-not_after-both : (d e : Def) → IsNotAfter d e → IsNotAfter e d → d ≡ e
+pub not_after-both : (d e : Def) → IsNotAfter d e → IsNotAfter e d → d ≡ e
 not_after-both d e (inl p) q = p
 not_after-both d e (inr p) (inl q) = sym q
 not_after-both d e (inr p) (inr q) = absurd (before-irrefl d (before-trans d e d p q))

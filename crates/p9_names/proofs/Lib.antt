@@ -6,3 +6,5 @@ pub mod Agreed
 pub mod Steps
 pub mod Answering
 pub mod Exactness
+mod BuiltInModule
+pub mod OneChoice

@@ -3,8 +3,9 @@ use Rattle.std.proofs.Common.{zero, suc, ◌≡◌, ℕ, ◌+◌, ◌<◌, ◌�
 use Rattle.p9_abs.specs.declared.modules.Symbol.{Symbol}
 use Rattle.p9_abs.specs.declared.modules.AModule.{AModule}
 use Rattle.p9_abs.specs.Validity.{AreApart}
-use Rattle.p9_names.specs.declared.table.Def.{Def}
-use Rattle.p9_names.specs.Linking.{symbol_at, Occurs, IsBefore, is_use, Uses}
+use Rattle.p9_abs.specs.declared.modules.Def.{Def}
+use Rattle.p9_abs.specs.Names.{symbol_at, Occurs, IsBefore}
+use Rattle.p9_names.specs.Linking.{is_use, Uses}
 use Rattle.p9_names.specs.Passes.{place, places_in, places_from, is_global, is_global_use, globals_of, uses_of, ArePlaces, AreLinkable}
 use Rattle.p9_names.proofs.Lists.{Among, Sorted, sorted-append, among-split, among-left, among-right, slice_get-some}
 use Rattle.p9_names.proofs.Breaking.{IsListing, and-left, and-right, and-both, same_symbol}

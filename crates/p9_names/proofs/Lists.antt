@@ -1,7 +1,7 @@
 -- Lists of places in order: members, the first that passes a test, and what stands before what.
 use Rattle.std.proofs.Common.{zero, suc, ◌≡◌, ℕ, ◌<◌, ◌⊎◌, inl, inr, Bool, true, false, cond, List, [], ◌∷◌, ◌++◌, Some, None, find, slice_get, slice_index_or, length, refl, sym, ap, subst, ◌∙◌, arith, true≢false}
-use Rattle.p9_names.specs.declared.table.Def.{Def}
-use Rattle.p9_names.specs.Linking.{IsBefore, IsNotAfter}
+use Rattle.p9_abs.specs.declared.modules.Def.{Def}
+use Rattle.p9_abs.specs.Names.{IsBefore, IsNotAfter}
 
 pub before-trans : (a b c : Def) → IsBefore a b → IsBefore b c → IsBefore a c
 before-trans a b c (inl p) (inl q) = inl (omega arith)

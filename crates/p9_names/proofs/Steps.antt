@@ -3,12 +3,13 @@ use Rattle.std.proofs.Common.{zero, suc, ◌≡◌, ℕ, ◌+◌, ◌<◌, ◌�
 use Rattle.std.proofs.lemmas.List.{take_more, take_all}
 use Rattle.p9_abs.specs.declared.modules.Symbol.{Symbol}
 use Rattle.p9_abs.specs.declared.modules.AModule.{AModule}
-use Rattle.p9_names.specs.declared.table.Def.{Def}
+use Rattle.p9_abs.specs.declared.modules.Def.{Def}
 use Rattle.p9_names.specs.declared.table.LinkFault.{LinkFault}
 use Rattle.p9_names.specs.declared.table.LinkFault.TheVariants.{Twice, NoMain, MainType, Unresolved, Disagree, Memory}
 use Rattle.p9_names.specs.declared.rules.Rule.{Rule}
 use Rattle.p9_names.specs.declared.rules.Rule.TheVariants.{Once, Agreement}
-use Rattle.p9_names.specs.Linking.{symbol_at, IsKept, IsTable}
+use Rattle.p9_abs.specs.Names.{symbol_at}
+use Rattle.p9_names.specs.Linking.{IsKept, IsTable}
 use Rattle.p9_names.specs.Passes.{Defining, Comparing, StepFault, conflict_fault, meets, ArePlaces, HoldPlaces, held_at, globals_of, AreLinkable, IsTwice, IsDisagreement}
 use Rattle.p9_names.proofs.Listing.{listing, global-places, places-take}
 use Rattle.p9_names.proofs.Breaking.{IsListing, first-conflict}

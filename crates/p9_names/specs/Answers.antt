@@ -1,16 +1,12 @@
 -- What `resolve` answers: a table where the modules join, and else the first refusal.
-use Rattle.std.specs.Prelude.{◌++◌, ◌∷◌, [], List}
+use Rattle.std.specs.Prelude.{List}
 use Rattle.p9_abs.specs.declared.modules.AModule.{AModule}
 use Rattle.p9_names.specs.declared.table.LinkFault.{LinkFault}
 use Rattle.p9_names.specs.declared.table.LinkFault.TheVariants.{Twice, NoMain, MainType, Unresolved, Disagree, Memory}
 use Rattle.p9_names.specs.declared.rules.Rule.TheVariants.{Once, Agreement}
 use Rattle.p9_names.specs.Rules.{main_name}
-use Rattle.p9_names.specs.Linking.{IsKept, IsFirstConflict, HasMain, HasWrongMain, IsUndefined, AllResolved, IsFirstUnresolved}
-use Rattle.p9_names.specs.BuiltIn.{builtin_module}
-
--- the modules that are linked: the built-in one comes last
-abbrev pub linked : List AModule → List AModule
-linked modules = modules ++ builtin_module ∷ []
+use Rattle.p9_names.specs.Linking.{IsKept, IsFirstConflict, HasMain, HasWrongMain, AllResolved, IsFirstUnresolved}
+use Rattle.p9_abs.specs.Names.{IsUndefined}
 
 -- each name is defined once, there is a main of a right type, what is used is defined, and all agree
 pub record Joins (ms : List AModule) : Type 0 where

@@ -1,50 +1,16 @@
--- Several modules, numbered from 0, and what their symbol records say of global names: which
--- records there are of a name, who defines it, who uses it and who agrees.
-use Rattle.std.specs.Prelude.{◌≡◌, ◌⊎◌, ◌<◌, ◌≤◌, ℕ, Bool, true, false, List, Option, Some, None, IsSome, slice_get, option_and_then, All, AllPairs, ◌==◌, bytes_eq}
-use Rattle.std.specs.List.{list_any}
+-- What several modules say of global names when they are linked: which records go against each
+-- other, who uses a name, and the table of the definitions.
+use Rattle.std.specs.Prelude.{◌≡◌, ◌⊎◌, ◌<◌, ◌≤◌, ℕ, Bool, true, false, List, Option, Some, IsSome, slice_get, All, AllPairs, bytes_eq}
 use Rattle.std.specs.Map.{lookup}
 use Rattle.p9_abs.specs.declared.modules.Body.{Body}
-use Rattle.p9_abs.specs.declared.modules.Body.TheVariants.{Declared, Used, Text, Data}
+use Rattle.p9_abs.specs.declared.modules.Body.TheVariants.{Declared, Used}
+use Rattle.p9_abs.specs.declared.modules.Def.{Def}
 use Rattle.p9_abs.specs.declared.modules.Symbol.{Symbol}
 use Rattle.p9_abs.specs.declared.modules.AModule.{AModule}
-use Rattle.p9_abs.specs.Modules.{is_definition, named_by_operand, named_by_piece}
-use Rattle.p9_names.specs.declared.table.Def.{Def}
+use Rattle.p9_abs.specs.Names.{Occurs, IsBefore, IsNotAfter, Defines, IsUndefined, IsFirstDefinition, IsChosen, module_names}
+use Rattle.p9_abs.specs.Programs.{chosen}
 use Rattle.p9_names.specs.declared.rules.Rule.{Rule}
-use Rattle.p9_names.specs.Rules.{breaks, is_full, is_main, main_name}
-
--- Occurrences
-
--- the symbol record at a place: a module's number, and the symbol's among its symbols
-abbrev pub symbol_at : List AModule → Def → Option Symbol
-symbol_at ms d = option_and_then (λ m. slice_get m.symbols d.symbol) (slice_get ms d.module)
-
--- the global name occurs at the place, in this record
-pub record Occurs (ms : List AModule) (name : List ℕ) (d : Def) (s : Symbol) : Type 0 where
-  pub stands : symbol_at ms d ≡ Some s
-  pub global : s.local ≡ false
-  pub named : s.name ≡ name
-
--- an earlier module, or an earlier symbol of the same one
-abbrev pub IsBefore : Def → Def → Type 0
-IsBefore a b = (a.module < b.module) ⊎ ((a.module ≡ b.module) × (a.symbol < b.symbol))
-
-abbrev pub IsNotAfter : Def → Def → Type 0
-IsNotAfter a b = (a ≡ b) ⊎ IsBefore a b
-
--- Definitions
-
--- the name is defined at the place: by text, data or common
-pub record Defines (ms : List AModule) (name : List ℕ) (d : Def) : Type 0 where
-  pub symbol : Symbol
-  pub occurs : Occurs ms name d symbol
-  pub defining : is_definition symbol.body ≡ true
-
-abbrev pub IsUndefined : List AModule → List ℕ → Type 0
-IsUndefined ms name = (d : Def) → Defines ms name d → ⊥
-
-pub record IsFirstDefinition (ms : List AModule) (name : List ℕ) (d : Def) : Type 0 where
-  pub defines : Defines ms name d
-  pub first : (e : Def) → Defines ms name e → IsNotAfter d e
+use Rattle.p9_names.specs.Rules.{breaks, is_main, main_name}
 
 -- Two records that break a rule
 
@@ -85,20 +51,6 @@ pub record HasWrongMain (ms : List AModule) (i : ℕ) : Type 0 where
 
 -- Uses
 
-abbrev pub is_number : ℕ → Option ℕ → Bool
-is_number k None = false
-is_number k (Some n) = n == k
-
--- an instruction or a data piece of the body names symbol k
-abbrev pub body_names : ℕ → Body → Bool
-body_names k (Text def) = list_any (λ a. list_any (λ o. is_number k (named_by_operand o)) a.operands) def.code
-body_names k (Data pieces) = list_any (λ p. is_number k (named_by_piece p)) pieces
-body_names k _ = false
-
--- an instruction or a data piece of the module names symbol k
-abbrev pub module_names : List Symbol → ℕ → Bool
-module_names symbols k = list_any (λ s. body_names k s.body) symbols
-
 -- a record of a name that is used, or declared and named in the module, whose symbols these are
 abbrev pub is_use : List Symbol → ℕ → Body → Bool
 is_use symbols k Used = true
@@ -128,11 +80,6 @@ pub record IsFirstUnresolved (ms : List AModule) (name : List ℕ) (i : ℕ) : T
 
 -- The table
 
--- the place of the name's text or data definition, or where there is none of its first common one
-pub record IsChosen (ms : List AModule) (name : List ℕ) (d : Def) : Type 0 where
-  pub defines : Defines ms name d
-  pub common : is_full defines.symbol.body ≡ false → (e : Def) → (other : Defines ms name e) → (is_full other.symbol.body ≡ false) × IsNotAfter d e
-
 -- the one name's first definition stands before the other's
 pub record IsDefinedBefore (ms : List AModule) (name other : List ℕ) : Type 0 where
   pub place : Def
@@ -146,3 +93,7 @@ pub record IsTable (ms : List AModule) (entries : List (List ℕ × Def)) : Type
   pub chosen : All (λ entry. IsChosen ms entry.0 entry.1) entries
   pub complete : (name : List ℕ) (d : Def) → Defines ms name d → IsSome (lookup (bytes_eq name) entries)
   pub ordered : AllPairs (λ a b. IsDefinedBefore ms a.0 b.0) entries
+
+-- each entry is the definition that the run of the modules goes by
+abbrev pub ChoosesAll : List AModule → List (List ℕ × Def) → Type 0
+ChoosesAll ms entries = All (λ entry. chosen ms entry.0 ≡ Some entry.1) entries

@@ -4,15 +4,16 @@ use Rattle.std.specs.Map.{lookup}
 use Rattle.indexmap.specs.IndexMap.{insert_entry}
 use Rattle.p9_abs.specs.declared.modules.Symbol.{Symbol}
 use Rattle.p9_abs.specs.declared.modules.AModule.{AModule}
-use Rattle.p9_abs.specs.Modules.{is_definition, size_of}
+use Rattle.p9_abs.specs.Modules.{is_definition, size_of, is_full}
 use Rattle.p9_abs.specs.Validity.{AreApart, HasSizeInRange}
-use Rattle.p9_names.specs.declared.table.Def.{Def}
+use Rattle.p9_abs.specs.declared.modules.Def.{Def}
 use Rattle.p9_names.specs.declared.table.LinkFault.{LinkFault}
 use Rattle.p9_names.specs.declared.table.LinkFault.TheVariants.{Twice, NoMain, MainType, Unresolved, Disagree, Memory}
 use Rattle.p9_names.specs.declared.rules.Rule.{Rule}
 use Rattle.p9_names.specs.declared.rules.Rule.TheVariants.{Once, Agreement}
-use Rattle.p9_names.specs.Rules.{breaks, is_full, is_empty, main_name}
-use Rattle.p9_names.specs.Linking.{symbol_at, is_use, IsFirstConflict, IsFirstUnresolved, IsUndefined, HasWrongMain}
+use Rattle.p9_names.specs.Rules.{breaks, is_empty, main_name}
+use Rattle.p9_abs.specs.Names.{symbol_at, IsUndefined}
+use Rattle.p9_names.specs.Linking.{is_use, IsFirstConflict, IsFirstUnresolved, HasWrongMain}
 
 -- Lists of places
 

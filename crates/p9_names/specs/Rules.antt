@@ -3,19 +3,9 @@ use Rattle.std.specs.Prelude.{◌==◌, ℕ, Bool, true, false, not, ◌&&◌, �
 use Rattle.p9_abs.specs.declared.modules.Body.{Body}
 use Rattle.p9_abs.specs.declared.modules.Body.TheVariants.{Text, Data, Common}
 use Rattle.p9_abs.specs.declared.modules.Symbol.{Symbol}
-use Rattle.p9_abs.specs.Modules.{size_of, is_definition}
+use Rattle.p9_abs.specs.Modules.{size_of, is_definition, is_text, is_full}
 use Rattle.p9_names.specs.declared.rules.Rule.{Rule}
 use Rattle.p9_names.specs.declared.rules.Rule.TheVariants.{Once, Agreement}
-
-abbrev pub is_text : Body → Bool
-is_text (Text _) = true
-is_text _ = false
-
--- text and data are full definitions, which stand before common ones
-abbrev pub is_full : Body → Bool
-is_full (Text _) = true
-is_full (Data _) = true
-is_full _ = false
 
 -- a name is defined twice: both by text or data, or one by text and one by common
 abbrev pub clash : Body → Body → Bool

@@ -1,15 +1,16 @@
 // The last pass: whether all records of a name agree.
 ghost use Rattle.std.specs.Prelude.{◌≡◌, ◌≤◌, ℕ, List, OnOk, IfOk, IfErr, IsSome, is_some, not, ◌&&◌};
 ghost use Rattle.p9_names.specs.declared.rules.Rule.TheVariants.{Agreement};
-ghost use Rattle.p9_names.specs.Linking.{symbol_at, IsKept};
+ghost use Rattle.p9_abs.specs.Names.{symbol_at};
+ghost use Rattle.p9_names.specs.Linking.{IsKept};
 ghost use Rattle.p9_names.specs.Passes.{ArePlaces, AreLinkable, HoldPlaces, Comparing, StepFault, has_size, note_first, globals_of, IsDisagreement};
 
 use crate::conflicts::{held, held_breaks, put, refuse_conflict};
 use crate::places::Linked;
 use crate::rules::Rule;
-use crate::table::{Def, LinkFault};
+use crate::table::LinkFault;
 use indexmap::IndexMap;
-use p9_abs::{Body, Symbol};
+use p9_abs::{Body, Def, Symbol};
 use p9_base::{Name, NoMemory};
 use std::alloc::Global;
 

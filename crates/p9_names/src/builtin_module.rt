@@ -2,7 +2,9 @@
 ghost use Rattle.std.specs.Prelude.{◌≡◌, IfOk, OnOk, List, ℕ, [], ◌∷◌, ◌++◌, codes};
 ghost use Rattle.p9_abs.specs.declared.modules.Body.TheVariants.{Text, Data};
 ghost use Rattle.p9_abs.specs.declared.modules.DataPiece.TheVariants.{Raw, Address};
-ghost use Rattle.p9_names.specs.BuiltIn.{builtin_module, builtin_symbols, inst, start_code, system_code, local_symbol, system_symbol, used_main, first_symbols, data_size, weight_with_start};
+ghost use Rattle.p9_abs.specs.BuiltIn.{builtin_module, builtin_symbols, inst, start_code, system_code, local_symbol, system_symbol, used_main, first_symbols, weight_with_start};
+ghost use Rattle.p9_abs.specs.Modules.{data_size};
+ghost use Rattle.p9_abs.specs.Validity.{IsValid};
 
 use p9_abs::{
     AModule, Abs, Body, Code, DataPiece, Op, Operand, Operands, Pieces, Symbol, Symbols, TextDef,
@@ -184,12 +186,9 @@ fn first_symbols(alloc: Global) -> Result<Vec<Symbol>, NoMemory>
     Ok(symbols)
 }
 
-/// The built-in module: the start, which calls `main`, and the functions `exits`, `read` and
-/// `write`.
-pub fn builtin(alloc: Global) -> Result<AModule, NoMemory>
-    ensures exactly { IfOk result (λ m. m ≡ builtin_module) }
-    ensures bytes { IfOk result (λ m. data_size m.symbols ≡ 24) }
-    ensures words { IfOk result (λ m. weight_with_start m.symbols ≡ 79) }
+// All symbols.
+fn symbols(alloc: Global) -> Result<Vec<Symbol>, NoMemory>
+    ensures { IfOk result (λ symbols. symbols.items ≡ builtin_symbols) }
 {
     let mut list = first_symbols(alloc)?;
     let end = raw_data(alloc, b"main\0")?;
@@ -199,6 +198,18 @@ pub fn builtin(alloc: Global) -> Result<AModule, NoMemory>
     add_system(alloc, &mut list, b"write", 20, b"(i;*v;l;)l")?;
     let program = raw_data(alloc, b"v.out\0")?;
     add_local(alloc, &mut list, b"_vout", program)?;
+    Ok(list)
+}
+
+/// The built-in module: the start, which calls `main`, and the functions `exits`, `read` and
+/// `write`.
+pub fn builtin(alloc: Global) -> Result<AModule, NoMemory>
+    ensures exactly { IfOk result (λ m. m ≡ builtin_module) }
+    ensures valid { IfOk result IsValid }
+    ensures bytes { IfOk result (λ m. data_size m.symbols ≡ 24) }
+    ensures words { IfOk result (λ m. weight_with_start m.symbols ≡ 79) }
+{
+    let list = symbols(alloc)?;
     Ok(AModule {
         symbols: Symbols { list },
     })

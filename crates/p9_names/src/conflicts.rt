@@ -1,14 +1,14 @@
 // Looking for a record that breaks a rule with a later one, and for a name's first definition.
 ghost use Rattle.std.specs.Prelude.{◌≡◌, ◌<◌, ◌≤◌, ℕ, List, find, bytes_eq, OnOk, IfErr, IfSome, IsSome, None, Some};
 ghost use Rattle.p9_abs.specs.Validity.{HasSizeInRange};
-ghost use Rattle.p9_names.specs.Linking.{symbol_at};
+ghost use Rattle.p9_abs.specs.Names.{symbol_at};
 ghost use Rattle.p9_names.specs.Passes.{ArePlaces, AreLinkable, HoldPlaces, StepFault, conflict_fault, breaks_at, meets, defines, held_at, held_breaks, put_entry};
 
 use crate::places::Linked;
 use crate::rules::{Rule, breaks, is_definition};
-use crate::table::{Def, LinkFault};
+use crate::table::LinkFault;
 use indexmap::IndexMap;
-use p9_abs::Symbol;
+use p9_abs::{Def, Symbol};
 use p9_base::{Name, NoMemory};
 use std::alloc::Global;
 

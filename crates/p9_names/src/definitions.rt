@@ -1,16 +1,17 @@
 // The first pass: which definition each name has, and which names are defined twice.
 ghost use Rattle.std.specs.Prelude.{◌≡◌, ◌≤◌, ℕ, List, OnOk, IfOk, IfErr, IsSome, ◌++◌, ◌∷◌, []};
 ghost use Rattle.p9_names.specs.declared.rules.Rule.TheVariants.{Once};
-ghost use Rattle.p9_names.specs.Linking.{symbol_at, IsKept, IsTable};
+ghost use Rattle.p9_abs.specs.Names.{symbol_at};
+ghost use Rattle.p9_names.specs.Linking.{IsKept, IsTable};
 ghost use Rattle.p9_names.specs.Answers.{IsRefusal};
 ghost use Rattle.p9_names.specs.Passes.{ArePlaces, AreLinkable, HoldPlaces, Defining, StepFault, takes_place, globals_of, IsTwice};
 
 use crate::conflicts::{held, held_breaks, put, refuse_conflict};
 use crate::places::Linked;
 use crate::rules::{Rule, is_definition, is_full};
-use crate::table::{Def, LinkFault};
+use crate::table::LinkFault;
 use indexmap::IndexMap;
-use p9_abs::Symbol;
+use p9_abs::{Def, Symbol};
 use p9_base::Name;
 use std::alloc::Global;
 

@@ -3,9 +3,10 @@ ghost use Rattle.std.specs.Prelude.{◌≡◌, ◌≢◌, ◌⊎◌, ◌<◌, �
 ghost use Rattle.p9_names.specs.declared.table.LinkFault.{LinkFault};
 ghost use Rattle.p9_names.specs.declared.table.LinkFault.TheVariants.{Memory};
 ghost use Rattle.p9_abs.specs.Validity.{IsValid};
-ghost use Rattle.p9_names.specs.Linking.{HasMain, AllResolved, IsTable};
+ghost use Rattle.p9_names.specs.Linking.{HasMain, AllResolved, IsTable, ChoosesAll};
 ghost use Rattle.p9_names.specs.Passes.{AreLinkable, globals_of, IsMainFault, IsUseFault};
-ghost use Rattle.p9_names.specs.Answers.{linked, Joins, IsRefusal};
+ghost use Rattle.p9_abs.specs.BuiltIn.{linked};
+ghost use Rattle.p9_names.specs.Answers.{Joins, IsRefusal};
 
 use crate::agreement::check_agreement;
 use crate::builtin_module::builtin;
@@ -13,10 +14,10 @@ use crate::conflicts::first_definition;
 use crate::definitions::definitions;
 use crate::places::{Linked, globals};
 use crate::rules::is_main;
-use crate::table::{Def, LinkFault, Table};
+use crate::table::{LinkFault, Table};
 use crate::uses::{first_missing, uses};
 use indexmap::IndexMap;
-use p9_abs::AModule;
+use p9_abs::{AModule, Def};
 use p9_base::{Bytes, Name};
 use std::alloc::Global;
 
@@ -84,6 +85,9 @@ pub fn resolve(alloc: Global, modules: &Vec<AModule>) -> Result<Table, LinkFault
     ensures joined { IfOk result (λ _. Joins (linked modules.now.items)) }
     ensures table { IfOk result (λ t. IsTable (linked modules.now.items) t.defs.entries) }
     ensures refused { IfErr result (IsRefusal (linked modules.now.items)) }
+
+    // The table's definition of a name is the one that the run of the modules goes by.
+    ensures chosen { IfOk result (λ t. ChoosesAll (linked modules.now.items) t.defs.entries) }
 
     // A cause that holds, with none before it in the order, is the answer, unless memory ran out.
     ensures refused_exactly { (fault : LinkFault) → fault ≢ Memory → IsRefusal (linked modules.now.items) fault → (result ≡ Err fault) ⊎ (result ≡ Err Memory) }

@@ -13,5 +13,6 @@ mod uses;
 
 pub use builtin_module::builtin;
 pub use joining::resolve;
+pub use p9_abs::Def;
 pub use rules::Rule;
-pub use table::{Def, LinkFault, Table};
+pub use table::{LinkFault, Table};

@@ -1,11 +1,10 @@
 // The modules that are linked, and the places of their symbols.
 ghost use Rattle.std.specs.Prelude.{◌≡◌, ◌<◌, ◌≤◌, ◌+◌, ◌++◌, ◌∷◌, ◌^◌, [], ℕ, List, Some, IsSome, OnOk, IfOk, All, length, slice_get, drop};
 ghost use Rattle.p9_abs.specs.declared.modules.AModule.{AModule};
-ghost use Rattle.p9_names.specs.Linking.{symbol_at};
+ghost use Rattle.p9_abs.specs.Names.{symbol_at};
 ghost use Rattle.p9_names.specs.Passes.{is_global, places_in, places_from, globals_of};
 
-use crate::table::Def;
-use p9_abs::{AModule, Symbol};
+use p9_abs::{AModule, Def, Symbol};
 use p9_base::NoMemory;
 use std::alloc::Global;
 use std::marker::Model;

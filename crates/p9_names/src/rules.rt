@@ -1,8 +1,8 @@
 // Which two records of one global name do not go together.
 ghost use Rattle.std.specs.Prelude.{◌≡◌, ℕ, ◌≤◌, IfSome, sum_by, List, length, take};
-ghost use Rattle.p9_abs.specs.Modules.{size_of, piece_size, pieces_size, is_definition};
+ghost use Rattle.p9_abs.specs.Modules.{size_of, piece_size, pieces_size, is_definition, is_text, is_full};
 ghost use Rattle.p9_abs.specs.Validity.{HasSizeInRange};
-ghost use Rattle.p9_names.specs.Rules.{is_text, is_full, clash, signatures_differ, sizes_differ, differ, breaks, is_main};
+ghost use Rattle.p9_names.specs.Rules.{clash, signatures_differ, sizes_differ, differ, breaks, is_main};
 
 use p9_abs::{Body, DataPiece, Symbol};
 

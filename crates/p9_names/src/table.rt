@@ -1,14 +1,8 @@
 // The table of global names, and why modules do not join.
 use indexmap::IndexMap;
+use p9_abs::Def;
 use p9_base::{Name, NoMemory};
 use thiserror::Error;
-
-/// A place: a module's number, and a symbol's among that module's symbols.
-#[derive(Clone, Copy, Debug, PartialEq, Eq)]
-pub struct Def {
-    pub module: u32,
-    pub symbol: u32,
-}
 
 /// Each global name that a module defines, with the place of its definition.
 #[derive(Drop)]

@@ -3,13 +3,13 @@ ghost use Rattle.std.specs.Prelude.{◌≡◌, ◌<◌, ◌≤◌, ◌+◌, ◌+
 ghost use Rattle.std.specs.List.{list_any};
 ghost use Rattle.std.proofs.Common.{get_or};
 ghost use Rattle.p9_abs.specs.Modules.{named_by_operand, named_by_piece};
-ghost use Rattle.p9_names.specs.Linking.{is_number, body_names, module_names, is_use};
+ghost use Rattle.p9_abs.specs.Names.{is_number, body_names, module_names};
+ghost use Rattle.p9_names.specs.Linking.{is_use};
 ghost use Rattle.p9_names.specs.Passes.{is_global_use, places_in, places_from, uses_of, ArePlaces, is_missing};
 
 use crate::places::Linked;
-use crate::table::Def;
 use indexmap::IndexMap;
-use p9_abs::{AModule, Abs, Body, DataPiece, Operand, Symbol};
+use p9_abs::{AModule, Abs, Body, DataPiece, Def, Operand, Symbol};
 use p9_base::{Name, NoMemory};
 use std::alloc::Global;
 

@@ -3,7 +3,6 @@
 
 mod data;
 mod distinct;
-mod forms;
 mod functions;
 mod numbers;
 mod operands;

@@ -1,10 +1,10 @@
 // Whether an instruction's operands are in range.
 ghost use Rattle.std.specs.Prelude.{◌≡◌, ◌↔◌, ℕ, ◌<◌, ◌≤◌, ◌^◌, true, IsTrue, All};
+ghost use Rattle.p9_abs.specs.Forms.{IsForm};
 ghost use Rattle.p9_abs.specs.Validity.{IsRegister, IsInRange, writes_last, IsWritable, IsInstruction};
 ghost use Rattle.p9_obj.specs.Rules.{IsStackOffset, IsWrittenRegister};
 
-use crate::forms::is_form;
-use p9_abs::{Abs, Op, Operand};
+use p9_abs::{Abs, Op, Operand, decoded};
 
 fn is_register(r: u8) -> bool
     ensures { IsTrue result ↔ IsRegister r }
@@ -89,6 +89,12 @@ fn is_written_well(op: Op, operands: &[Operand]) -> bool
     } else {
         true
     }
+}
+
+fn is_form(a: &Abs) -> bool
+    ensures { IsTrue result ↔ IsForm a.now }
+{
+    decoded(a).is_some()
 }
 
 /// Whether the instruction may stand in a function of this frame and so many instructions.

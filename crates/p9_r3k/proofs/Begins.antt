@@ -9,7 +9,7 @@ use Rattle.p9_base.specs.declared.order.ByteOrder.{ByteOrder}
 use Rattle.p9_base.specs.declared.order.ByteOrder.TheVariants.{Big, Little}
 use Rattle.p9_r3k.specs.Memory.{Core, text_start, stack_start, stack_end, read_word, word_in}
 use Rattle.p9_r3k.specs.Machine.{State, run}
-use Rattle.p9_r3k.specs.Start.{zeros, page_from, low_bytes, start}
+use Rattle.p9_r3k.specs.Start.{zeros, page_from, low_bytes, start, in_order}
 use Rattle.p9_r3k.specs.Laws.{LaidOut, KeepsText, ImageFits, AreBytes, HoldsWords}
 use Rattle.p9_r3k.proofs.Kept.{run-keeps}
 
@@ -106,30 +106,36 @@ index-front xs ys zs ws i h =
     let b : i < length (xs ++ ys ++ zs) = omega (arith, length-append (xs ++ ys) zs, a) in
     get_or-append (xs ++ ys ++ zs) ws 0 i b ∙ (get_or-append (xs ++ ys) zs 0 i a ∙ get_or-append xs ys 0 i h)
 
-pub word_at-front : (xs ys zs ws : List ℕ) (i : ℕ) → i + 4 ≤ length xs → word_at (xs ++ ys ++ zs ++ ws) i ≡ word_at xs i
-word_at-front xs ys zs ws i h =
-    word_at-alike xs (xs ++ ys ++ zs ++ ws) i (index-front xs ys zs ws i (omega arith)) (index-front xs ys zs ws (i + 1) (omega arith))
+pub word_in-front :
+    (o : ByteOrder) (xs ys zs ws : List ℕ) (i : ℕ) → i + 4 ≤ length xs → word_in o (xs ++ ys ++ zs ++ ws) i ≡ word_in o xs i
+word_in-front o xs ys zs ws i h =
+    word_in-alike o xs (xs ++ ys ++ zs ++ ws) i (index-front xs ys zs ws i (omega arith)) (index-front xs ys zs ws (i + 1) (omega arith))
     (index-front xs ys zs ws (i + 2) (omega arith)) (index-front xs ys zs ws (i + 3) (omega arith))
 
 pub start-word :
-    (text init : List ℕ) (bss entry : ℕ) (input : List ℕ) (a : ℕ) → text_start ≤ a → a + 4 ≤ text_start + length text →
-    a < stack_start → read_word (start text init bss entry input).core a ≡ word_at text (a - text_start)
-start-word text init bss entry input a from to below =
-    low_read (start text init bss entry input).core true a (below_stack a below) refl
-    ∙ word_at-front text (zeros (page_from (text_start + length text) - (text_start + length text))) init (zeros bss) (a - text_start)
+    (o : ByteOrder) (text init : List ℕ) (bss entry : ℕ) (input : List ℕ) (a : ℕ) → text_start ≤ a → a + 4 ≤ text_start + length text →
+    a < stack_start → read_word (in_order o (start text init bss entry input)).core a ≡ word_in o text (a - text_start)
+start-word o text init bss entry input a from to below =
+    low_read (in_order o (start text init bss entry input)).core true a (below_stack a below) refl
+    ∙ word_in-front o text (zeros (page_from (text_start + length text) - (text_start + length text))) init (zeros bss) (a - text_start)
     (omega arith)
 
+order-laid : (o : ByteOrder) (s : State) → LaidOut s.core → LaidOut (in_order o s).core
+order-laid o s h =
+    record { text = h.text; gap = h.gap; data_and_bss = h.data_and_bss; above = h.above; stack_size = h.stack_size }
+
 pub run-word :
-    (text init : List ℕ) (bss entry : ℕ) (input : List ℕ) (n a : ℕ) → ImageFits text init bss → text_start ≤ a →
+    (o : ByteOrder) (text init : List ℕ) (bss entry : ℕ) (input : List ℕ) (n a : ℕ) → ImageFits text init bss → text_start ≤ a →
     a + 4 ≤ text_start + length text →
-    read_word (run n (start text init bss entry input)).core a ≡ word_at text (a - text_start)
-run-word text init bss entry input n a fits from to =
+    read_word (run n (in_order o (start text init bss entry input))).core a ≡ word_in o text (a - text_start)
+run-word o text init bss entry input n a fits from to =
     let small : length text ≤ 2 ^ 25 = fits.0 in
     let below : a < stack_start = omega (arith, small) in
     let above : text_start + length text ≤ page_from (text_start + length text) = page_from-above (text_start + length text) in
-    let s : State = start text init bss entry input in
-    read_word-kept s.core (run n s).core a (run-keeps n s (start-laid text init bss entry input fits)) from (omega (arith, above)) below
-    ∙ start-word text init bss entry input a from to below
+    let s : State = in_order o (start text init bss entry input) in
+    let laid : LaidOut s.core = order-laid o (start text init bss entry input) (start-laid text init bss entry input fits) in
+    read_word-kept s.core (run n s).core a (run-keeps n s laid) from (omega (arith, above)) below
+    ∙ start-word o text init bss entry input a from to below
 
 -- The start holds words
 

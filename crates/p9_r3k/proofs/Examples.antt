@@ -1,15 +1,17 @@
 -- Examples: the stops of short programs, and instructions at the edges of their values.
-use Rattle.std.proofs.Common.{ℕ, ◌≡◌, ◌+◌, ◌*◌, ◌++◌, true, false, Option, Some, None, refl, List, [], ◌∷◌, length, replicate, slice_index}
+use Rattle.std.proofs.Common.{ℕ, ◌≡◌, ◌+◌, ◌*◌, ◌++◌, true, false, Option, Some, None, refl, List, [], ◌∷◌, length, replicate, slice_index, drop}
 use Rattle.p9_base.specs.Numbers.{word_bytes}
 use Rattle.p9_r3k.specs.declared.inst.Inst.TheVariants as insts
 use Rattle.p9_base.specs.declared.halt.HaltCause.TheVariants as halts
 use Rattle.p9_base.specs.declared.halt.Ending.TheVariants.{Running, Exited, Halted}
 use Rattle.p9_base.specs.declared.halt.Effect.TheVariants as effects
 use Rattle.p9_base.specs.declared.halt.Asked.TheVariants as asks
+use Rattle.p9_base.specs.declared.order.ByteOrder.{ByteOrder}
+use Rattle.p9_base.specs.declared.order.ByteOrder.TheVariants.{Big, Little}
 use Rattle.p9_r3k.specs.Table.{decoded}
 use Rattle.p9_r3k.specs.Memory.{Core, text_start}
 use Rattle.p9_r3k.specs.Effects.{effect_of}
-use Rattle.p9_r3k.specs.Machine.{State, fetched, asked, step, run}
+use Rattle.p9_r3k.specs.Machine.{State, fetched, applied, asked, step, run}
 use Rattle.p9_r3k.specs.declared.inst.Inst.{Inst}
 use Rattle.p9_r3k.specs.declared.lines.Line.{Line}
 use Rattle.p9_r3k.specs.declared.lines.Part.TheVariants as parts
@@ -93,6 +95,29 @@ argument_missing = refl
 pub argument_cut : (run 3 (with_text (39 ∷ 189 ∷ 255 ∷ 245 ∷ 36 ∷ 1 ∷ 0 ∷ 8 ∷ 0 ∷ 0 ∷ 0 ∷ 12 ∷ []))).core.ending ≡ Halted (halts.Misaligned 0x7FFF_EFF9) 0x1028
 unfolding run step fetched decoded
 argument_cut = refl
+
+-- a system call reads registers 1 and 29, and no other
+
+pub call_reads_1 : (run 2 (with_text (143 ∷ 161 ∷ 255 ∷ 252 ∷ 0 ∷ 0 ∷ 0 ∷ 12 ∷ []))).core.ending ≡ Halted halts.LoadHazard 0x1024
+unfolding run step fetched decoded
+call_reads_1 = refl
+
+pub call_reads_29 : (run 2 (with_text (143 ∷ 189 ∷ 255 ∷ 252 ∷ 0 ∷ 0 ∷ 0 ∷ 12 ∷ []))).core.ending ≡ Halted halts.LoadHazard 0x1024
+unfolding run step fetched decoded
+call_reads_29 = refl
+
+pub call_reads_no_other : (run 2 (with_text (143 ∷ 162 ∷ 255 ∷ 252 ∷ 0 ∷ 0 ∷ 0 ∷ 12 ∷ []))).core.ending ≡ Halted (halts.BadCall 0) 0x1024
+unfolding run step fetched decoded
+call_reads_no_other = refl
+
+-- the program of exits_empty, with the lowest byte of each word first
+
+abbrev pub with_little_text : List ℕ → State
+with_little_text text = record (with_text text) { core = record (with_text text).core { order = Little } }
+
+pub little_exits_empty : (run 3 (with_little_text (240 ∷ 255 ∷ 189 ∷ 39 ∷ 8 ∷ 0 ∷ 1 ∷ 36 ∷ 12 ∷ 0 ∷ 0 ∷ 0 ∷ []))).core.ending ≡ Exited 0 0
+unfolding run step fetched decoded
+little_exits_empty = refl
 
 -- Branches: the slot runs, and a link is set where the branch isn't taken
 
@@ -202,6 +227,84 @@ not_above_zero = refl
 
 pub negative_not_above_zero : effect_of (insts.Bgtz 1 1) (holding 0xFFFF_FFFF 0) ≡ effects.Branch 0 false 0x1028
 negative_not_above_zero = refl
+
+pub below_zero : effect_of (insts.Bltz 1 1) (holding 0xFFFF_FFFF 0) ≡ effects.Branch 0 true 0x1028
+below_zero = refl
+
+pub zero_not_below_zero : effect_of (insts.Bltz 1 1) (holding 0 0) ≡ effects.Branch 0 false 0x1028
+zero_not_below_zero = refl
+
+pub zero_or_above : effect_of (insts.Bgez 1 1) (holding 0 0) ≡ effects.Branch 0 true 0x1028
+zero_or_above = refl
+
+-- the region is that of the instruction after the jump
+pub jump_into_the_next_region : effect_of (insts.Jal 5) (record (holding 0 0) { pc = 0x2FFF_FFFC }) ≡ effects.Branch 31 true 0x3000_0014
+jump_into_the_next_region = refl
+
+-- HI and LO, which hold 8 and 9: a write of one keeps the other
+
+abbrev pub with_pair : Core
+with_pair = record (holding 5 0) { hi = 8; lo = 9 }
+
+pub high_written : effect_of (insts.Mthi 1) with_pair ≡ effects.Pair 5 9
+high_written = refl
+
+pub low_written : effect_of (insts.Mtlo 1) with_pair ≡ effects.Pair 8 5
+low_written = refl
+
+pub high_read : effect_of (insts.Mfhi 3) with_pair ≡ effects.Write 3 8
+high_read = refl
+
+pub low_read : effect_of (insts.Mflo 3) with_pair ≡ effects.Write 3 9
+low_read = refl
+
+-- Loads and stores, by both byte orders, over four bytes at 0x1024, with that address in register 1
+
+abbrev pub over_bytes : ByteOrder → Core
+over_bytes order = record (before_run (7 ∷ 7 ∷ 7 ∷ 7 ∷ 0x81 ∷ 2 ∷ 0xF3 ∷ 4 ∷ []) [] 0x1024 0x1024 0x1020) {
+  order = order;
+  regs = 0 ∷ 0x1024 ∷ 0x1234_5678 ∷ [];
+}
+
+pub signed_byte_loaded : effect_of (insts.Lb 1 3 0) (over_bytes Big) ≡ effects.Load 3 0xFFFF_FF81
+signed_byte_loaded = refl
+
+pub byte_loaded : effect_of (insts.Lbu 1 3 0) (over_bytes Big) ≡ effects.Load 3 0x81
+byte_loaded = refl
+
+pub signed_half_loaded : effect_of (insts.Lh 1 3 0) (over_bytes Big) ≡ effects.Load 3 0xFFFF_8102
+signed_half_loaded = refl
+
+pub half_loaded : effect_of (insts.Lhu 1 3 0) (over_bytes Big) ≡ effects.Load 3 0x8102
+half_loaded = refl
+
+pub word_loaded : effect_of (insts.Lw 1 3 0) (over_bytes Big) ≡ effects.Load 3 0x8102_F304
+word_loaded = refl
+
+pub little_half_loaded : effect_of (insts.Lh 1 3 0) (over_bytes Little) ≡ effects.Load 3 0x281
+little_half_loaded = refl
+
+pub little_word_loaded : effect_of (insts.Lw 1 3 0) (over_bytes Little) ≡ effects.Load 3 0x4F3_0281
+little_word_loaded = refl
+
+-- the four bytes after a store
+abbrev pub stored : Inst → ByteOrder → List ℕ
+stored i order = drop 4 (applied (effect_of i (over_bytes order)) (over_bytes order) false).low
+
+pub byte_stored : stored (insts.Sb 1 2 1) Big ≡ 0x81 ∷ 0x78 ∷ 0xF3 ∷ 4 ∷ []
+byte_stored = refl
+
+pub half_stored : stored (insts.Sh 1 2 2) Big ≡ 0x81 ∷ 2 ∷ 0x56 ∷ 0x78 ∷ []
+half_stored = refl
+
+pub word_stored : stored (insts.Sw 1 2 0) Big ≡ 0x12 ∷ 0x34 ∷ 0x56 ∷ 0x78 ∷ []
+word_stored = refl
+
+pub little_half_stored : stored (insts.Sh 1 2 2) Little ≡ 0x81 ∷ 2 ∷ 0x78 ∷ 0x56 ∷ []
+little_half_stored = refl
+
+pub little_word_stored : stored (insts.Sw 1 2 0) Little ≡ 0x78 ∷ 0x56 ∷ 0x34 ∷ 0x12 ∷ []
+little_word_stored = refl
 
 -- System calls, with 4 bytes of text, the argument words in 14 bytes of data behind it, and R29 4 bytes before them
 

@@ -17,7 +17,8 @@ use Rattle.p9_r3k.specs.Memory.{text_start, stack_start, with_half_in, with_word
 use Rattle.p9_r3k.specs.Effects.{effect_of}
 use Rattle.p9_r3k.specs.Machine.{State, asked}
 use Rattle.p9_r3k.specs.Straight.{Addresses, Straight, with_imm, with_index, with_piece, with_value, filled, line_at, aim, standing, linked_line, on_to, at_once, straight_line, straight_going, straight_step, straight_run}
-use Rattle.p9_r3k.proofs.Words.{HoldsAll, ValuesFit, with_register-words, memory-words-by, set-bytes, half-bytes, word-bytes, halted-words, called-words, asked-count, effect_of-values}
+use Rattle.p9_base.proofs.Holding.{HoldsAll, ValuesFit, with_register-words, memory-words-by, set-bytes, half-bytes, word-bytes, halted-words, called-words, asked-count}
+use Rattle.p9_r3k.proofs.Words.{effect_of-values}
 
 -- What is filled in fits
 

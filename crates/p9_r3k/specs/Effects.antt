@@ -1,4 +1,5 @@
--- What each instruction does, apart from when it happens.
+-- What each instruction does, apart from when it happens, by the operations of the R3000's manual (Kane, "MIPS RISC
+-- Architecture").
 use Rattle.std.specs.Prelude.{ℕ, ◌+◌, ◌*◌, ◌/◌, ◌%◌, ◌^◌, ◌==◌, ◌||◌, nat_lt, Bool, true, false, not, bit_and, bit_or, bit_xor}
 use Rattle.p9_base.specs.Words.{word_sum, word_difference, is_negative, is_signed_less, signed_quotient, signed_remainder, unsigned_product, signed_product, shift_left, shift_right, shift_right_signed, word_nor}
 use Rattle.p9_base.specs.Numbers.{sign_extended}

@@ -37,7 +37,7 @@ r_word rs rt rd sh fn = rs * 2 ^ 21 + rt * 2 ^ 16 + rd * 2 ^ 11 + sh * 2 ^ 6 + f
 abbrev pub i_word : (op rs rt imm : ℕ) → ℕ
 i_word op rs rt imm = op * 2 ^ 26 + rs * 2 ^ 21 + rt * 2 ^ 16 + imm
 
--- a jump's place
+-- a jump's target in its region
 abbrev pub j_word : (op index : ℕ) → ℕ
 j_word op index = op * 2 ^ 26 + index
 

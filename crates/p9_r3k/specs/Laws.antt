@@ -1,13 +1,13 @@
 -- Laws of the machines' runs.
-use Rattle.std.specs.Prelude.{ℕ, ◌+◌, ◌-◌, ◌^◌, ◌≡◌, ◌≤◌, ◌<◌, ◌++◌, List, length, take, All}
-use Rattle.p9_base.specs.Words.{IsWord}
-use Rattle.p9_base.specs.Numbers.{word_at}
+use Rattle.std.specs.Prelude.{ℕ, ◌+◌, ◌-◌, ◌^◌, ◌≡◌, ◌≤◌, ◌++◌, List, length, take}
+pub use Rattle.p9_base.specs.Holding.{AreWords, AreBytes, HoldsWords, LaidOut, KeepsText}
+use Rattle.p9_base.specs.declared.order.ByteOrder.{ByteOrder}
 use Rattle.p9_base.specs.declared.halt.Ending.{Ending}
 use Rattle.p9_base.specs.declared.halt.Ending.TheVariants.{Running, Exited, Halted}
 use Rattle.p9_r3k.specs.declared.lines.Line.{Line}
-use Rattle.p9_r3k.specs.Memory.{Core, text_start, stack_start, stack_end, reg, low_end, read_word}
+use Rattle.p9_r3k.specs.Memory.{Core, text_start, stack_start, stack_end, reg, low_end, read_word, word_in}
 use Rattle.p9_r3k.specs.Machine.{State, run}
-use Rattle.p9_r3k.specs.Start.{start}
+use Rattle.p9_r3k.specs.Start.{start, in_order}
 use Rattle.p9_r3k.specs.Pending.{Pending, settled, pending_run}
 use Rattle.p9_r3k.specs.Straight.{Addresses, Straight, straight_run}
 
@@ -36,41 +36,8 @@ OutputGrows = (n : ℕ) (s : State) → Extends s.out (run n s).out
 abbrev pub InputShrinks : Type 0
 InputShrinks = (n : ℕ) (s : State) → EndsWith s.left (run n s).left
 
--- text, data and stack lie one behind the other
-pub record LaidOut (c : Core) : Type 0 where
-  pub text : text_start ≤ c.text_end
-  pub gap : c.text_end ≤ c.data_start
-  pub data_and_bss : c.data_start ≤ low_end c
-  pub above : low_end c ≤ stack_start
-  pub stack_size : length c.stack ≡ stack_end - stack_start
-
--- the byte order, the places and the sizes are the same, and so is every byte below the data
-pub record KeepsText (c d : Core) : Type 0 where
-  pub order : d.order ≡ c.order
-  pub text_end : d.text_end ≡ c.text_end
-  pub data_start : d.data_start ≡ c.data_start
-  pub low_size : length d.low ≡ length c.low
-  pub stack_size : length d.stack ≡ length c.stack
-  pub below_data : take (c.data_start - text_start) d.low ≡ take (c.data_start - text_start) c.low
-
 abbrev pub TextStays : Type 0
 TextStays = (n : ℕ) (s : State) → LaidOut s.core → KeepsText s.core (run n s).core
-
--- registers hold words, register 0 holds 0, and memory holds bytes
-abbrev pub AreWords : List ℕ → Type 0
-AreWords xs = All IsWord xs
-
-abbrev pub AreBytes : List ℕ → Type 0
-AreBytes xs = All (λ b. b < 2 ^ 8) xs
-
-pub record HoldsWords (c : Core) : Type 0 where
-  pub count : length c.regs ≡ 32
-  pub zero_register : reg c 0 ≡ 0
-  pub registers : AreWords c.regs
-  pub high : IsWord c.hi
-  pub less : IsWord c.lo
-  pub low_bytes : AreBytes c.low
-  pub stack_bytes : AreBytes c.stack
 
 abbrev pub WordsStay : Type 0
 WordsStay =
@@ -86,12 +53,12 @@ StartsLaidOut =
     (text init : List ℕ) (bss entry : ℕ) (input : List ℕ) →
     ImageFits text init bss → LaidOut (start text init bss entry input).core
 
--- at every step the words of the text are the image's
+-- at every step the words of the text are the image's, by the machine's byte order
 abbrev pub RunsItsText : Type 0
 RunsItsText =
-    (text init : List ℕ) (bss entry : ℕ) (input : List ℕ) (n a : ℕ) →
+    (order : ByteOrder) (text init : List ℕ) (bss entry : ℕ) (input : List ℕ) (n a : ℕ) →
     ImageFits text init bss → text_start ≤ a → a + 4 ≤ text_start + length text →
-    read_word (run n (start text init bss entry input)).core a ≡ word_at text (a - text_start)
+    read_word (run n (in_order order (start text init bss entry input))).core a ≡ word_in order text (a - text_start)
 
 abbrev pub StartsWithWords : Type 0
 StartsWithWords =

@@ -1,5 +1,5 @@
 -- The machine with branch slots and load delays: its steps and its runs.
-use Rattle.std.specs.Prelude.{ℕ, zero, suc, ◌%◌, ◌==◌, ◌&&◌, ◌||◌, nat_lt, nat_le, Bool, true, false, not, Option, Some, None, Result, Ok, Err, if◌then◌else◌}
+use Rattle.std.specs.Prelude.{ℕ, zero, suc, ◌%◌, ◌==◌, ◌&&◌, ◌||◌, nat_lt, nat_le, Bool, not, Option, Some, None, Result, Ok, Err, if◌then◌else◌}
 use Rattle.p9_r3k.specs.declared.inst.Inst.{Inst}
 use Rattle.p9_base.specs.declared.halt.HaltCause.{HaltCause}
 use Rattle.p9_base.specs.declared.halt.HaltCause.TheVariants.{Fetch, BadWord, LoadHazard, HiLoHazard, SlotBranch}

@@ -2,6 +2,7 @@
 use Rattle.std.specs.Prelude.{ℕ, ◌+◌, ◌-◌, ◌*◌, ◌/◌, ◌^◌, false, List, [], ◌++◌, length, replicate, slice_set}
 use Rattle.p9_base.specs.Words.{word_sum}
 use Rattle.p9_base.specs.declared.halt.Ending.TheVariants.{Running}
+use Rattle.p9_base.specs.declared.order.ByteOrder.{ByteOrder}
 use Rattle.p9_base.specs.declared.order.ByteOrder.TheVariants.{Big}
 use Rattle.p9_r3k.specs.Memory.{Core, text_start, stack_end}
 use Rattle.p9_r3k.specs.Machine.{State}
@@ -40,9 +41,13 @@ low_bytes text init bss =
     let text_end = text_start + length text in
     text ++ zeros (page_from text_end - text_end) ++ init ++ zeros bss
 
--- the machine before its first instruction, and its input
+-- the machine before its first instruction, and its input, big-endian
 abbrev pub start : (text init : List ℕ) → (bss entry : ℕ) → (input : List ℕ) → State
 start text init bss entry input =
     let text_end = text_start + length text in
     let core = before_run (low_bytes text init bss) (zeros (2 ^ 24)) text_end (page_from text_end) entry in
     record { core = core; left = input; out = [] }
+
+-- the same with another byte order
+abbrev pub in_order : ByteOrder → State → State
+in_order order s = record s { core = record s.core { order = order } }

@@ -1,8 +1,9 @@
-// The instructions of the R3000, one variant for each row of its table.
+// The instructions of the R3000 that user programs use, one variant for each row of the instruction
+// tables in Kane's "MIPS RISC Architecture", the manual of the R2000 and R3000.
 
 /// An instruction. `rs`, `rt` and `rd` are registers, `sh` a shift's distance, `imm` the half word
-/// of an immediate instruction, `index` a jump's place in words, and `code` the 20 bits of SYSCALL
-/// and BREAK that the machine passes over.
+/// of an immediate instruction, `index` a jump's target as a word of its region of 256 MiB, and
+/// `code` the 20 bits of SYSCALL and BREAK that the machine passes over.
 #[derive(Clone, Copy, PartialEq, Eq, Debug)]
 pub enum Inst {
     J { index: u32 },

@@ -9,6 +9,7 @@ use crate::inst::Inst;
 
 impl Inst {
     /// Whether it reads a register. A system call reads R1 and R29, whatever it asks.
+    #[inline(always)]
     pub fn reads(self, register: u32) -> bool
         ensures { result ≡ reads self register }
     {

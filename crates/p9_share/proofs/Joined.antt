@@ -5,28 +5,26 @@ use Rattle.p9_abs.specs.declared.modules.AModule.{AModule}
 use Rattle.p9_abs.specs.declared.modules.Symbol.{Symbol}
 use Rattle.p9_abs.specs.declared.modules.Body.TheVariants.{Used, Data}
 use Rattle.p9_abs.specs.Modules.{is_definition}
-use Rattle.p9_lang.specs.Form.{same_name, is_among, functions, IsFile}
+use Rattle.p9_first.specs.Form.{same_name, is_among, functions, IsFile}
 use Rattle.p9_form.specs.declared.file.Statement.{Statement}
 use Rattle.p9_form.specs.declared.file.First.{First}
 use Rattle.p9_form.specs.declared.file.First.TheVariants as first
 use Rattle.p9_form.specs.declared.file.Declaration.{Declaration}
 use Rattle.p9_form.specs.declared.file.File.{File}
 use Rattle.p9_form.specs.Items.{items_of}
-use Rattle.p9_form.specs.Sharing.{initial_in, initials, tentative_in, tentatives, defined_names, declarations, statements, names_in}
+use Rattle.p9_form.specs.Sharing.{initial_in, initials, tentative_in, tentatives, defined_names, declarations, statements, names_in, named_by, named_if}
 use Rattle.p9_form.specs.declared.file.Operand.{Operand}
 use Rattle.p9_form.specs.declared.file.Operand.TheVariants.{Variable, Number}
 use Rattle.p9_form.specs.declared.file.Statement.TheVariants.{Assign, Write, Exits}
-use Rattle.p9_form.specs.Sharing.{named_by, named_if}
 use Rattle.p9_form.proofs.Formed.{FitsOperand, FitsIf, FitsStatement, FitStatements, names_behind, FitsFile}
 use Rattle.p9_base.specs.Numbers.{word_bytes}
 use Rattle.p9_abs.specs.declared.modules.DataPiece.{DataPiece}
 use Rattle.p9_abs.specs.declared.modules.DataPiece.TheVariants.{Raw}
 use Rattle.p9_share.proofs.Names.{same_is}
 use Rattle.p9_share.proofs.Valid.{IsVariableName, parts_of}
-use Rattle.p9_names.specs.declared.table.Def.{Def}
-use Rattle.p9_names.specs.BuiltIn.{builtin_module, builtin_symbols}
-use Rattle.p9_names.specs.Linking.{symbol_at, Occurs, Defines}
-use Rattle.p9_names.specs.Answers.{linked}
+use Rattle.p9_abs.specs.declared.modules.Def.{Def}
+use Rattle.p9_abs.specs.BuiltIn.{builtin_module, builtin_symbols, linked}
+use Rattle.p9_abs.specs.Names.{symbol_at, Occurs, Defines}
 use Rattle.std.specs.List.{list_any}
 use Rattle.p9_share.specs.Symbols.{global, is_exits, is_write, used_if, system_symbols, module_of, symbols_of, variable_symbol, body_of, main_symbol, main_symbols, used_names}
 use Rattle.p9_share.proofs.Within.{Within, get_front, within_left, within_right, within_map, from_map, within_append, within_step, within_none, within_next, within_flat_map, all_within}

@@ -5,9 +5,9 @@ use Rattle.p9_abs.specs.declared.modules.AModule.{AModule}
 use Rattle.p9_abs.specs.declared.modules.Symbol.{Symbol}
 use Rattle.p9_abs.specs.declared.modules.DataPiece.TheVariants.{Raw}
 use Rattle.p9_abs.specs.declared.modules.Body.TheVariants.{Used, Data}
-use Rattle.p9_abs.specs.Modules.{is_definition}
+use Rattle.p9_abs.specs.Modules.{is_definition, is_full}
 use Rattle.p9_base.specs.Numbers.{word_bytes}
-use Rattle.p9_lang.specs.Form.{same_name, is_among, functions, IsFile}
+use Rattle.p9_first.specs.Form.{same_name, is_among, functions, IsFile}
 use Rattle.p9_form.specs.declared.file.Statement.{Statement}
 use Rattle.p9_form.specs.declared.file.First.{First}
 use Rattle.p9_form.specs.declared.file.First.TheVariants as first
@@ -17,9 +17,11 @@ use Rattle.p9_form.specs.Items.{items_of}
 use Rattle.p9_form.specs.Sharing.{Initial, initial_in, initials, defined_names, declarations, statements, mains, names_in, AreJoined}
 use Rattle.p9_form.proofs.Formed.{FitStatements, FitsMain, names_behind, FitsFile, file_fits}
 use Rattle.p9_names.specs.declared.rules.Rule.TheVariants.{Once}
-use Rattle.p9_names.specs.Linking.{Occurs, IsKept, is_use}
-use Rattle.p9_names.specs.Rules.{clash, is_full}
-use Rattle.p9_names.specs.Answers.{linked, Joins}
+use Rattle.p9_abs.specs.Names.{Occurs}
+use Rattle.p9_names.specs.Linking.{IsKept, is_use}
+use Rattle.p9_names.specs.Rules.{clash}
+use Rattle.p9_abs.specs.BuiltIn.{linked}
+use Rattle.p9_names.specs.Answers.{Joins}
 use Rattle.p9_share.specs.Symbols.{module_of, symbols_of, variable_symbol, body_of, main_symbol, used_names}
 use Rattle.p9_share.proofs.Valid.{same_self, parts_of, pairs_append, pairs_none, pairs_one, IsUnlike}
 use Rattle.p9_share.proofs.Within.{Within, within_left, within_step, within_none, from_flat_map, all_within, from_all, contains_within, get_at}

@@ -14,7 +14,7 @@ use Rattle.p9_abs.specs.declared.modules.AModule.{AModule}
 use Rattle.p9_abs.specs.declared.modules.Symbol.{Symbol}
 use Rattle.p9_abs.specs.Modules.{named_by_operand, named_by_piece, operands_of, pieces_of}
 use Rattle.p9_abs.specs.Validity.{IsGraphic, IsName, IsSignature, AreApart, IsWithin, IsInRange, NamesWithin, IsFilled, HasWellPieced, HasSizeInRange, IsInstruction, HasFunction, IsValid}
-use Rattle.p9_lang.specs.Form.{is_letter, is_letter_or_digit, is_name, is_variable_name, same_name, is_among, keywords, functions, IsFile}
+use Rattle.p9_first.specs.Form.{is_letter, is_letter_or_digit, is_name, is_variable_name, same_name, is_among, keywords, functions, IsFile}
 use Rattle.p9_form.specs.declared.file.Statement.{Statement}
 use Rattle.p9_form.specs.declared.file.First.{First}
 use Rattle.p9_form.specs.declared.file.First.TheVariants as first
@@ -185,7 +185,7 @@ main_good = record {
     instructions =
         all_cons (IsInstruction 0 1) (record { op = Ret; operands = [] }) []
         (record {
-          form = record { in_table = refl; shifts = tt };
+          form = refl;
           operands = all_none (IsInRange 0 1);
           destination = λ e. absurd (true_not_false (sym e));
         })

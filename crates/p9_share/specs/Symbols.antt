@@ -3,7 +3,7 @@
 use Rattle.std.specs.Prelude.{ℕ, Bool, true, false, if◌then◌else◌, List, [], ◌∷◌, ◌++◌, map, flat_map, Option, Some, None, codes}
 use Rattle.std.specs.List.{list_any}
 use Rattle.p9_base.specs.Numbers.{word_bytes}
-use Rattle.p9_lang.specs.Form.{is_among}
+use Rattle.p9_first.specs.Form.{is_among}
 use Rattle.p9_abs.specs.declared.instructions.Op.TheVariants.{Ret}
 use Rattle.p9_abs.specs.declared.modules.DataPiece.TheVariants.{Raw}
 use Rattle.p9_abs.specs.declared.modules.Body.{Body}

@@ -1,9 +1,10 @@
 // Joining files.
 ghost use Rattle.std.specs.Prelude.{◌≡◌, ◌≢◌, ◌≤◌, ◌⊎◌, ◌∷◌, [], length, map, All, IfOk, IfErr, IsOk, Err};
-ghost use Rattle.p9_lang.specs.Form.{IsFile};
+ghost use Rattle.p9_first.specs.Form.{IsFile};
 ghost use Rattle.p9_form.specs.Items.{items_of};
 ghost use Rattle.p9_form.specs.Sharing.{AreJoined, IsSmall};
-ghost use Rattle.p9_names.specs.Answers.{linked, Joins, IsRefusal};
+ghost use Rattle.p9_abs.specs.BuiltIn.{linked};
+ghost use Rattle.p9_names.specs.Answers.{Joins, IsRefusal};
 ghost use Rattle.p9_names.specs.declared.table.LinkFault.{LinkFault};
 ghost use Rattle.p9_names.specs.declared.table.LinkFault.TheVariants.{Memory};
 ghost use Rattle.p9_share.specs.Symbols.{module_of};

@@ -1,7 +1,7 @@
 // The module of a file: its symbols.
 ghost use Rattle.std.specs.Prelude.{◌≡◌, ◌++◌, ◌∷◌, [], map, flat_map, true, IfOk, OnOk, IsTrue, codes};
 ghost use Rattle.std.specs.List.{list_any};
-ghost use Rattle.p9_lang.specs.Form.{is_among};
+ghost use Rattle.p9_first.specs.Form.{is_among};
 ghost use Rattle.p9_base.specs.Numbers.{word_bytes};
 ghost use Rattle.p9_form.specs.Sharing.{named_by, named_if, names_in};
 ghost use Rattle.p9_share.specs.Symbols.{global, is_exits, is_write, used_if, system_symbols, signature_of, body_of, variable_symbol, main_symbol, main_symbols, symbols_of, module_of, used_names};

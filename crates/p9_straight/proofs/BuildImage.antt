@@ -5,8 +5,8 @@ use Rattle.p9_r3k.specs.declared.inst.Inst.{Inst}
 use Rattle.p9_r3k.specs.Memory.{text_start}
 use Rattle.p9_r3k.specs.Start.{page_from}
 use Rattle.p9_aout.specs.Image.{ImageParts, IsWithinBounds}
-use Rattle.p9_lang.specs.Form.{same_name, is_among}
-use Rattle.p9_lang.specs.Modules.{new_names}
+use Rattle.p9_first.specs.Form.{same_name, is_among}
+use Rattle.p9_first.specs.Modules.{new_names}
 use Rattle.p9_form.specs.declared.file.File.{File}
 use Rattle.p9_form.specs.declared.file.Statement.{Statement}
 use Rattle.p9_form.specs.Sharing.{Initial, initials, tentatives, statements, IsSmall}

@@ -5,7 +5,7 @@ use Rattle.std.proofs.lemmas.List.Concat.{flat_map-append}
 use Rattle.std.proofs.lemmas.List.Elements.{All-rest}
 use Rattle.std.proofs.lemmas.Result.{on_ok_weaker}
 use Rattle.p9_base.specs.Numbers.{word_bytes}
-use Rattle.p9_lang.specs.Form.{same_name}
+use Rattle.p9_first.specs.Form.{same_name}
 use Rattle.p9_form.specs.declared.file.First.TheVariants as first
 use Rattle.p9_form.specs.declared.file.Declaration.{Declaration}
 use Rattle.p9_form.specs.declared.file.Statement.{Statement}

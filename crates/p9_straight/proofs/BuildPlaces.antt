@@ -2,7 +2,7 @@
 use Rattle.std.proofs.Common.{◌≡◌, ℕ, ◌==◌, ◌&&◌, Bool, true, false, cond, List, [], ◌∷◌, Option, Some, None, is_some, bytes_eq, refl, sym, ap, ◌∙◌, true≢false}
 use Rattle.std.specs.Cmp.Lexicographic.{bytes_decides}
 use Rattle.indexmap.specs.IndexMap.{insert_entry}
-use Rattle.p9_lang.specs.Form.{same_name}
+use Rattle.p9_first.specs.Form.{same_name}
 use Rattle.p9_straight.specs.Layout.{or_else}
 use Rattle.p9_straight.specs.Building.{Entries, held, noted}
 

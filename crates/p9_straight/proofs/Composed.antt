@@ -1,16 +1,19 @@
 -- The executable of joined files keeps their meaning, and ends in time.
 use Rattle.std.proofs.Common.{◌≡◌, ◌≤◌, ℕ, zero, suc, ◌+◌, ◌-◌, Bool, true, false, if◌then◌else◌, nat_le, List, [], ◌∷◌, ◌++◌, length, take, map, flat_map, Contains, All, Some, IsSomeAnd, Ok, option_map, sym, ap, ◌∙◌, subst, arith}
 use Rattle.p9_aout.specs.Image.{ImageParts, image_of}
-use Rattle.p9_lang.specs.Form.{IsFile}
+use Rattle.p9_first.specs.Form.{IsFile}
 use Rattle.p9_base.specs.Words.{is_negative}
-use Rattle.p9_cmean.specs.Turns.{Outcome, Ended, Out, Undefined, Deep}
-use Rattle.p9_cmean.specs.CRun.{source_run}
+use Rattle.p9_first.specs.Turns.{Outcome, Ended, Out, Undefined, Deep}
+use Rattle.p9_first.specs.CRun.{source_run}
 use Rattle.p9_base.specs.declared.halt.Ending.{Ending}
 use Rattle.p9_base.specs.declared.halt.Ending.TheVariants.{Running, Exited, Halted}
 use Rattle.p9_r3k.specs.Machine.{State, run, exit_text}
 use Rattle.p9_r3k.specs.Laws.{HasEnded}
 use Rattle.p9_r3k.proofs.Runs.{run-ended, run-sum}
-use Rattle.p9_vi.specs.Run.{vrun, started, start_of, IsExited, HasExited, IsRunning}
+use Rattle.p9_vi.specs.Run.{vrun, started, start_of, IsExited}
+use Rattle.p9_headline.specs.declared.TheConstants.{DEFAULT_BUDGET}
+use Rattle.p9_headline.specs.Headline.{Seen, IsDefined, HasExited, IsRunning, KeepsMeaning}
+use Rattle.p9_headline.specs.Headline as seen
 use Rattle.p9_form.specs.declared.file.Statement.{Statement}
 use Rattle.p9_form.specs.declared.file.Statement.TheVariants.{Assign, Write, Exits}
 use Rattle.p9_form.specs.declared.file.File.{File}
@@ -18,7 +21,7 @@ use Rattle.p9_form.specs.Items.{items_of, source_of}
 use Rattle.p9_form.specs.Sharing.{names_in, initials, defined_names, AreJoined, IsSmall}
 use Rattle.p9_straight.specs.Layout.{init_bytes, bss_size, texts_at, end_at}
 use Rattle.p9_straight.specs.Code.{main_code, data_start, place_in, main_of, code_of, parts_for}
-use Rattle.p9_straight.specs.Headline.{KeepsMeaning, IsDefined, budget, EndsInTime}
+use Rattle.p9_straight.specs.Headline.{seen_of, union_run, EndsInTime}
 use Rattle.p9_straight.specs.FormRun.{Values, Came, Ends, RunsOut, Fails, operand_value, after_write, statements_run, initial_of, form_run, ComesTo}
 use Rattle.p9_straight.proofs.Placed.{AreVariables, AreTexts}
 use Rattle.p9_straight.proofs.LaidOut.{variables_laid}
@@ -77,15 +80,15 @@ vrun_is : (bytes input : List ℕ) (parts : ImageParts) (m : ℕ) → image_of b
 unfolding vrun
 vrun_is bytes input parts m e = ap (λ p. option_map (run m) (started p input)) e
 
-exited_is : (bytes input : List ℕ) (parts : ImageParts) (m : ℕ) (output text : List ℕ) → image_of bytes ≡ Ok parts → IsExited (run m (start_of parts input)).core.ending → exit_text (run m (start_of parts input)).core ≡ text → (run m (start_of parts input)).out ≡ output → HasExited bytes input m output text
-exited_is bytes input parts m output text e exits same out =
-    subst (λ o. IsSomeAnd o (λ s. IsExited s.core.ending × (exit_text s.core ≡ text) × (s.out ≡ output))) (sym (vrun_is bytes input parts m e))
-    (exits, same, out)
+exited_is : (bytes input : List ℕ) (parts : ImageParts) (m : ℕ) (output text left : List ℕ) → image_of bytes ≡ Ok parts → IsExited (run m (start_of parts input)).core.ending → exit_text (run m (start_of parts input)).core ≡ text → (run m (start_of parts input)).out ≡ output → (run m (start_of parts input)).left ≡ left → HasExited bytes input m output text left
+exited_is bytes input parts m output text left e exits same out rest =
+    subst (λ o. IsSomeAnd o (λ s. IsExited s.core.ending × (exit_text s.core ≡ text) × (s.out ≡ output) × (s.left ≡ left))) (sym (vrun_is bytes input parts m e))
+    (exits, same, out, rest)
 
-running_is : (bytes input : List ℕ) (parts : ImageParts) (m : ℕ) (output : List ℕ) → image_of bytes ≡ Ok parts → (run m (start_of parts input)).core.ending ≡ Running → (run m (start_of parts input)).out ≡ output → IsRunning bytes input m output
-running_is bytes input parts m output e running out =
-    subst (λ o. IsSomeAnd o (λ s. (s.core.ending ≡ Running) × (s.out ≡ output))) (sym (vrun_is bytes input parts m e))
-    (running, out)
+running_is : (bytes input : List ℕ) (parts : ImageParts) (m : ℕ) (output left : List ℕ) → image_of bytes ≡ Ok parts → (run m (start_of parts input)).core.ending ≡ Running → (run m (start_of parts input)).out ≡ output → (run m (start_of parts input)).left ≡ left → IsRunning bytes input m output left
+running_is bytes input parts m output left e running out rest =
+    subst (λ o. IsSomeAnd o (λ s. (s.core.ending ≡ Running) × (s.out ≡ output) × (s.left ≡ left))) (sym (vrun_is bytes input parts m e))
+    (running, out, rest)
 
 -- a run that has exited stays
 exited_ended : (e : Ending) → IsExited e → HasEnded e
@@ -100,28 +103,34 @@ run_later s m n less exits =
 
 -- The two runs
 
-ended_same : (bytes input : List ℕ) (parts : ImageParts) (turns limit : ℕ) (output text : List ℕ) (came : Came) → image_of bytes ≡ Ok parts
-    → ComesTo (Ended output text) came → Runs came (start_of parts input) turns limit → (m : ℕ) × HasExited bytes input m output text
-ended_same bytes input parts turns limit output text (Ends o t) e same runs =
-    (runs.0, exited_is bytes input parts runs.0 output text e runs.2 (runs.3 ∙ sym same.1) (runs.4 ∙ sym same.0))
-ended_same bytes input parts turns limit output text (RunsOut o) e same runs = absurd same
-ended_same bytes input parts turns limit output text Fails e same runs = absurd same
+-- what the machine comes to where this is seen of the sources
+abbrev Keeps : (bytes input : List ℕ) (turns : ℕ) → Seen → Type 0
+Keeps bytes input turns (seen.Ended output text left) = (m : ℕ) × HasExited bytes input m output text left
+Keeps bytes input turns (seen.Out output left) = (m : ℕ) × (turns ≤ m) × IsRunning bytes input m output left
+Keeps bytes input turns seen.Other = Unit {0}
 
-out_same : (bytes input : List ℕ) (parts : ImageParts) (turns limit : ℕ) (output : List ℕ) (came : Came) → image_of bytes ≡ Ok parts
-    → ComesTo (Out output) came → Runs came (start_of parts input) turns limit → (m : ℕ) × (turns ≤ m) × IsRunning bytes input m output
-out_same bytes input parts turns limit output (Ends o t) e same runs = absurd same
-out_same bytes input parts turns limit output (RunsOut o) e same runs =
-    (runs.0, runs.1, running_is bytes input parts runs.0 output e runs.3 (runs.4 ∙ sym same))
-out_same bytes input parts turns limit output Fails e same runs = absurd same
+same : (bytes input : List ℕ) (parts : ImageParts) (turns limit : ℕ) (outcome : Outcome) (came : Came) → image_of bytes ≡ Ok parts
+    → ComesTo outcome came → Runs came (start_of parts input) turns limit → Keeps bytes input turns (seen_of input outcome)
+same bytes input parts turns limit (Ended output text) (Ends o t) e comes runs =
+    (runs.0, exited_is bytes input parts runs.0 output text input e runs.2 (runs.3 ∙ sym comes.1) (runs.4 ∙ sym comes.0) runs.5)
+same bytes input parts turns limit (Out output) (RunsOut o) e comes runs =
+    (runs.0, runs.1, running_is bytes input parts runs.0 output input e runs.3 (runs.4 ∙ sym comes) runs.5)
+same bytes input parts turns limit (Ended output text) (RunsOut o) e comes runs = absurd comes
+same bytes input parts turns limit (Ended output text) Fails e comes runs = absurd comes
+same bytes input parts turns limit (Out output) (Ends o t) e comes runs = absurd comes
+same bytes input parts turns limit (Out output) Fails e comes runs = absurd comes
+same bytes input parts turns limit (Undefined output why place) came e comes runs = tt
+same bytes input parts turns limit (Deep output place) came e comes runs = tt
 
-keeps : (files : List File) (bytes : List ℕ) → Agree files → AreReady files → image_of bytes ≡ Ok (parts_for files) → KeepsMeaning (map source_of files) bytes
+kept : (files : List File) (bytes : List ℕ) → Agree files → AreReady files → image_of bytes ≡ Ok (parts_for files) → (input : List ℕ) (turns : ℕ) → Keeps bytes input turns (union_run (map source_of files) input turns)
+kept files bytes agrees ready image input turns =
+    same bytes input (parts_for files) turns (length (code_of files)) (source_run (map source_of files) input turns) (form_run files turns) image
+    (agrees input turns) (machine_comes files input turns ready)
+
+keeps : (files : List File) (bytes : List ℕ) → Agree files → AreReady files → image_of bytes ≡ Ok (parts_for files) → KeepsMeaning (union_run (map source_of files)) bytes
 keeps files bytes agrees ready image = record {
-  ended = λ input turns output text e.
-      ended_same bytes input (parts_for files) turns (length (code_of files)) output text (form_run files turns) image
-      (subst (λ o. ComesTo o (form_run files turns)) e (agrees input turns)) (machine_comes files input turns ready);
-  goes_on = λ input turns output e.
-      out_same bytes input (parts_for files) turns (length (code_of files)) output (form_run files turns) image
-      (subst (λ o. ComesTo o (form_run files turns)) e (agrees input turns)) (machine_comes files input turns ready);
+  ended = λ input turns output text left e. subst (Keeps bytes input turns) e (kept files bytes agrees ready image input turns);
+  goes_on = λ input turns output left e. subst (Keeps bytes input turns) e (kept files bytes agrees ready image input turns);
 }
 
 -- Enough turns
@@ -155,18 +164,19 @@ form_over : (files : List File) → IsOver (form_run files (suc (length (main_of
 form_over files = statements_over (length (main_of files)) (initial_of (initials files)) (main_of files) [] (omega arith)
 
 -- a run that is defined and over has exited in time
-in_time : (bytes input : List ℕ) (parts : ImageParts) (turns limit : ℕ) (outcome : Outcome) (came : Came) → image_of bytes ≡ Ok parts → limit ≤ budget
-    → IsDefined outcome → IsOver came → ComesTo outcome came → Runs came (start_of parts input) turns limit
-    → (output text : List ℕ) × HasExited bytes input budget output text
+in_time : (bytes input : List ℕ) (parts : ImageParts) (turns limit : ℕ) (outcome : Outcome) (came : Came) → image_of bytes ≡ Ok parts → limit ≤ DEFAULT_BUDGET
+    → IsDefined (seen_of input outcome) → IsOver came → ComesTo outcome came → Runs came (start_of parts input) turns limit
+    → (output text : List ℕ) × HasExited bytes input DEFAULT_BUDGET output text input
 in_time bytes input parts turns limit (Ended output text) (Ends o t) e within defined over same runs =
-    let later : run budget (start_of parts input) ≡ run runs.0 (start_of parts input) =
-    run_later (start_of parts input) runs.0 budget (omega (arith, within, runs.1)) runs.2 in (
+    let later : run DEFAULT_BUDGET (start_of parts input) ≡ run runs.0 (start_of parts input) =
+    run_later (start_of parts input) runs.0 DEFAULT_BUDGET (omega (arith, within, runs.1)) runs.2 in (
       o,
       t,
-      exited_is bytes input parts budget o t e
+      exited_is bytes input parts DEFAULT_BUDGET o t input e
           (subst (λ (s : State). IsExited s.core.ending) (sym later) runs.2)
           (ap (λ (s : State). exit_text s.core) later ∙ runs.3)
-          (ap (λ (s : State). s.out) later ∙ runs.4),
+          (ap (λ (s : State). s.out) later ∙ runs.4)
+          (ap (λ (s : State). s.left) later ∙ runs.5),
     )
 in_time bytes input parts turns limit (Ended output text) (RunsOut o) e within defined over same runs = absurd over
 in_time bytes input parts turns limit (Ended output text) Fails e within defined over same runs = absurd same
@@ -186,7 +196,7 @@ ends files bytes agrees ready image input defined =
 -- The two clauses
 
 pub keeps_meaning : (files : List File) (bytes : List ℕ) → Agree files → All (λ f. IsFile (items_of f)) files → All IsSmall files → length files ≤ 16 → AreJoined files
-    → image_of bytes ≡ Ok (parts_for files) → KeepsMeaning (map source_of files) bytes
+    → image_of bytes ≡ Ok (parts_for files) → KeepsMeaning (union_run (map source_of files)) bytes
 keeps_meaning files bytes agrees forms smalls count joined image =
     keeps files bytes agrees (record { forms = forms; smalls = smalls; count = count; joined = joined }) image
 

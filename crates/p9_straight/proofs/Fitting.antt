@@ -2,8 +2,8 @@
 use Rattle.std.proofs.Common.{◌≡◌, ◌<◌, ◌≤◌, ℕ, zero, suc, ◌+◌, ◌*◌, ◌^◌, Bool, true, false, if◌then◌else◌, List, [], ◌∷◌, ◌++◌, length, map, flat_map, slice_index_or, All, Option, Some, None, refl, sym, ap, ◌∙◌, subst, arith, length-append}
 use Rattle.std.proofs.lemmas.Grind.{flat_map-append}
 use Rattle.std.proofs.lemmas.List.Elements.{All-append}
-use Rattle.p9_lang.specs.Form.{same_name, is_among, IsFile}
-use Rattle.p9_lang.specs.Modules.{new_names}
+use Rattle.p9_first.specs.Form.{same_name, is_among, IsFile}
+use Rattle.p9_first.specs.Modules.{new_names}
 use Rattle.p9_r3k.specs.Memory.{text_start}
 use Rattle.p9_r3k.specs.Start.{page_from}
 use Rattle.p9_form.specs.declared.file.Operand.{Operand}

@@ -3,8 +3,8 @@ use Rattle.std.proofs.Common.{◌≡◌, ◌<◌, ◌≤◌, ◌⊎◌, inl, inr
 use Rattle.std.proofs.lemmas.List.Elements.{Contains-append_cases}
 use Rattle.p9_base.specs.Numbers.{word_at}
 use Rattle.p9_r3k.specs.Start.{zeros}
-use Rattle.p9_lang.specs.Form.{same_name, is_among}
-use Rattle.p9_lang.specs.Modules.{new_names}
+use Rattle.p9_first.specs.Form.{same_name, is_among}
+use Rattle.p9_first.specs.Modules.{new_names}
 use Rattle.p9_form.specs.declared.file.File.{File}
 use Rattle.p9_form.specs.Sharing.{statements, Initial, initials, tentatives, defined_names}
 use Rattle.p9_straight.specs.Layout.{Datum, Variable, Text, end_text, text_in, datum_bytes, variable_in, common_in, or_else, variables_of, data_of, data_objects, init_bytes, commons, bss_size, address_of}

@@ -6,7 +6,7 @@ use Rattle.std.proofs.lemmas.Bool.Decides.{nat_tests}
 use Rattle.std.proofs.lemmas.List.{get_or-set_same}
 use Rattle.p9_base.specs.declared.order.ByteOrder.TheVariants.{Big}
 use Rattle.p9_base.specs.Numbers.{word_at}
-use Rattle.p9_lang.specs.Form.{same_name}
+use Rattle.p9_first.specs.Form.{same_name}
 use Rattle.p9_r3k.specs.declared.inst.Inst.TheVariants.{Lw, Sw}
 use Rattle.p9_r3k.specs.Memory.{text_start, with_reg, with_word_in}
 use Rattle.p9_r3k.specs.Machine.{State, run}

@@ -71,5 +71,5 @@ machine_runs place names init bss at end ss values input (suc turns) variables t
     let follows : Follows text text_start code = follows_all code few all in
     runs_then (statements_run turns values ss []) (Addiu 29 29 65520 ∷ []) rest (start text init bss text_start input)
     (standing m (registers 0 0 0 0) low stack (text_start + 4) 0 []) (suc turns) turns
-    (begins m low stack rest memory.room follows) (omega arith)
+    (begins m low stack rest memory.room follows) refl (omega arith)
     (statements_go m place names init values 0 0 0 0 low stack (text_start + 4) at end [] ss turns memory (length-zeros (2 ^ 24)) texts known fit follows.1)

@@ -147,12 +147,12 @@ write_by : (negative small : Bool) (m : Fixed) (place : List ℕ → ℕ) (names
 write_by true small m place names init values one v three four low stack pc at out text rest turns next n s memory size has fits code go =
     runs_then (next out) (write_code at) rest (standing m (registers one v three four) low stack pc 0 out)
     (standing m (registers (2 ^ 32 - 1) v at four) low (with_third stack at v) (behind pc (write_code at)) 0 out) (suc turns) turns
-    (writes_nothing m low stack one three four pc out text at v memory.room size has fits n code) (omega arith)
+    (writes_nothing m low stack one three four pc out text at v memory.room size has fits n code) refl (omega arith)
     (go (2 ^ 32 - 1) v at four (with_third stack at v) out (third_size stack at v size))
 write_by false true m place names init values one v three four low stack pc at out text rest turns next n s memory size has fits code go =
     runs_then (next (out ++ take v (text ++ 0 ∷ []))) (write_code at) rest (standing m (registers one v three four) low stack pc 0 out)
     (standing m (registers v v at four) low (with_third stack at v) (behind pc (write_code at)) 0 (out ++ take v (text ++ 0 ∷ []))) (suc turns) turns
-    (writes_front m low stack one three four pc out text at v memory.room size has fits n (within v (length text + 1) s) code) (omega arith)
+    (writes_front m low stack one three four pc out text at v memory.room size has fits n (within v (length text + 1) s) code) refl (omega arith)
     (go v v at four (with_third stack at v) (out ++ take v (text ++ 0 ∷ [])) (third_size stack at v size))
   where
     within : (n k : ℕ) → nat_le n k ≡ true → n ≤ k
@@ -176,7 +176,7 @@ write_runs m place names init values one two three four low stack pc at out text
     subst (λ code. Runs came s0 (suc turns) (length code)) (sym (append_assoc first (write_code at) rest))
     (runs_then came first (write_code at ++ rest) s0 s1 (suc turns) (suc turns)
     (loads m place names init values (registers one two three four) low stack pc out 2 count memory known (follows_first m.text pc first (write_code at) code) (lit< tt) (lit< tt))
-    (omega arith) later)
+    refl (omega arith) later)
 
 -- Statements
 
@@ -191,7 +191,7 @@ exit_runs m place names init values one two three four low stack pc at out text 
     (exited m (registers 8 at three four) low (with_first stack at) (pc + 4 + 4 + 4 + 4) out at (length text))
     (length (exit_code at)) turns limit out text
     (exits_text m low stack one two three four pc out text at memory.room size has (no_zero text fit) code) within tt
-    (exited_text m (registers 8 at three four) low (with_first stack at) (pc + 4 + 4 + 4 + 4) out text at memory.room has) refl
+    (exited_text m (registers 8 at three four) low (with_first stack at) (pc + 4 + 4 + 4 + 4) out text at memory.room has) refl refl
 
 exit_none_runs : (m : Fixed) (place : List ℕ → ℕ) (names : List (List ℕ)) (init : List ℕ) (values : Values) (one two three four : ℕ) (low stack : List ℕ) (pc : ℕ) (out : List ℕ) (turns limit : ℕ) → Memory m place names init values low → IsStack stack → Follows m.text pc (exit_by 0) → length (exit_by 0) ≤ limit →
     Runs (Ends out []) (standing m (registers one two three four) low stack pc 0 out) turns limit
@@ -199,7 +199,7 @@ exit_none_runs m place names init values one two three four low stack pc out tur
     ends_by (standing m (registers one two three four) low stack pc 0 out)
     (exited m (registers 8 two three four) low (with_first stack 0) (pc + 4 + 4) out 0 0)
     (length (exit_by 0)) turns limit out []
-    (exits_none m low stack one two three four pc out memory.room size code) within tt refl refl
+    (exits_none m low stack one two three four pc out memory.room size code) within tt refl refl refl
 
 pub statements_go : (m : Fixed) (place : List ℕ → ℕ) (names : List (List ℕ)) (init : List ℕ) (values : Values) (one two three four : ℕ) (low stack : List ℕ) (pc at end : ℕ) (out : List ℕ) (ss : List Statement) (turns : ℕ) → Memory m place names init values low → IsStack stack → AreTexts place names m.begin init at end ss → AreIn names (flat_map names_in ss) → AreFit ss → Follows m.text pc (statements_code place at end ss) →
     Runs (statements_run turns values ss out) (standing m (registers one two three four) low stack pc 0 out) turns (length (statements_code place at end ss))
@@ -218,7 +218,7 @@ statements_go m place names init values one two three four low stack pc at end o
     memory_assigned m place names init values low x v memory (in_first names x (named_by left ++ named_if right) names_here)
     (sum_word m place names init values low x left right memory names_here fit.0) in
     runs_then (statements_run turns (assigned values x v) ss out) first rest s
-    (standing m (registers did.one did.two did.three did.four) after stack (behind pc first) 0 out) turns turns did.runs (omega arith)
+    (standing m (registers did.one did.two did.three did.four) after stack (behind pc first) 0 out) turns turns did.runs refl (omega arith)
     (statements_go m place names init (assigned values x v) did.one did.two did.three did.four after stack (behind pc first) at end out ss turns later size texts.1
     (in_back names (names_in (Assign x left right)) (flat_map names_in ss) known) fit.1 (follows_then m.text pc first rest code))
 statements_go m place names init values one two three four low stack pc at end out (Write text count ∷ ss) zero memory size texts known fit code =

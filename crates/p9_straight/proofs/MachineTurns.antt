@@ -4,7 +4,7 @@ use Rattle.std.specs.Prelude.{Contains, IsTrue}
 use Rattle.std.specs.List.{list_all}
 use Rattle.std.proofs.Math.ListN.{get_or-append}
 use Rattle.std.proofs.lemmas.List.{get_or-append-add}
-use Rattle.p9_lang.specs.Form.{is_text_byte}
+use Rattle.p9_first.specs.Form.{is_text_byte}
 use Rattle.p9_r3k.specs.declared.inst.Inst.{Inst}
 use Rattle.p9_base.specs.declared.halt.Ending.TheVariants.{Running}
 use Rattle.p9_r3k.specs.Machine.{State, run, exit_text}
@@ -19,12 +19,14 @@ use Rattle.p9_straight.specs.FormRun.{Came, Ends, RunsOut, Fails}
 use Rattle.p9_straight.proofs.MachineMemory.{IsKnown}
 
 -- within a limit of steps the machine comes to the same: to the exit, or, where turns are out, to a place where
--- it goes on, after at least as many steps
+-- it goes on, after at least as many steps; it has read nothing
 abbrev pub Runs : Came → State → (turns limit : ℕ) → Type 0
 Runs (Ends output text) s turns limit =
     (m : ℕ) × (m ≤ limit) × IsExited (run m s).core.ending × (exit_text (run m s).core ≡ text) × ((run m s).out ≡ output)
+    × ((run m s).left ≡ s.left)
 Runs (RunsOut output) s turns limit =
     (m : ℕ) × (turns ≤ m) × (m ≤ limit) × ((run m s).core.ending ≡ Running) × ((run m s).out ≡ output)
+    × ((run m s).left ≡ s.left)
 Runs Fails s turns limit = Unit {0}
 
 -- Runs that are put together
@@ -32,29 +34,31 @@ Runs Fails s turns limit = Unit {0}
 run_on : (s t : State) (n m : ℕ) → run n s ≡ t → run m t ≡ run (n + m) s
 run_on s t n m e = ap (λ u. run m u) (sym e) ∙ sym (run-sum n m s)
 
-runs_after : (came : Came) (s t : State) (n turns later limit : ℕ) → run n s ≡ t → turns ≤ n + later → Runs came t later limit → Runs came s turns (n + limit)
-runs_after (Ends output text) s t n turns later limit e more h =
+runs_after : (came : Came) (s t : State) (n turns later limit : ℕ) → run n s ≡ t → t.left ≡ s.left → turns ≤ n + later → Runs came t later limit → Runs came s turns (n + limit)
+runs_after (Ends output text) s t n turns later limit e same more h =
     let k : run h.0 t ≡ run (n + h.0) s = run_on s t n h.0 e in (
       n + h.0,
       omega (arith, h.1),
       subst (λ (u : State). IsExited u.core.ending) k h.2,
       subst (λ (u : State). exit_text u.core ≡ text) k h.3,
       subst (λ (u : State). u.out ≡ output) k h.4,
+      subst (λ (u : State). u.left ≡ s.left) k (h.5 ∙ same),
     )
-runs_after (RunsOut output) s t n turns later limit e more h =
+runs_after (RunsOut output) s t n turns later limit e same more h =
     let k : run h.0 t ≡ run (n + h.0) s = run_on s t n h.0 e in (
       n + h.0,
       omega (arith, h.1, more),
       omega (arith, h.2),
       subst (λ (u : State). u.core.ending ≡ Running) k h.3,
       subst (λ (u : State). u.out ≡ output) k h.4,
+      subst (λ (u : State). u.left ≡ s.left) k (h.5 ∙ same),
     )
-runs_after Fails s t n turns later limit e more h = tt
+runs_after Fails s t n turns later limit e same more h = tt
 
 -- a piece of code, and then what is behind it
-pub runs_then : (came : Came) (xs ys : List Inst) (s t : State) (turns later : ℕ) → run (length xs) s ≡ t → turns ≤ length xs + later → Runs came t later (length ys) → Runs came s turns (length (xs ++ ys))
-runs_then came xs ys s t turns later e more h =
-    subst (λ limit. Runs came s turns limit) (sym (length-append xs ys)) (runs_after came s t (length xs) turns later (length ys) e more h)
+pub runs_then : (came : Came) (xs ys : List Inst) (s t : State) (turns later : ℕ) → run (length xs) s ≡ t → t.left ≡ s.left → turns ≤ length xs + later → Runs came t later (length ys) → Runs came s turns (length (xs ++ ys))
+runs_then came xs ys s t turns later e same more h =
+    subst (λ limit. Runs came s turns limit) (sym (length-append xs ys)) (runs_after came s t (length xs) turns later (length ys) e same more h)
 
 -- out of turns at once
 pub runs_out : (s : State) (limit : ℕ) (output : List ℕ) → s.core.ending ≡ Running → s.out ≡ output → Runs (RunsOut output) s 0 limit
@@ -64,16 +68,18 @@ runs_out s limit output running out = (
   omega arith,
   subst (λ (u : State). u.core.ending ≡ Running) (sym (run-zero s)) running,
   subst (λ (u : State). u.out ≡ output) (sym (run-zero s)) out,
+  ap (λ (u : State). u.left) (run-zero s),
 )
 
 -- an exit
-pub ends_by : (s t : State) (n turns limit : ℕ) (output text : List ℕ) → run n s ≡ t → n ≤ limit → IsExited t.core.ending → exit_text t.core ≡ text → t.out ≡ output → Runs (Ends output text) s turns limit
-ends_by s t n turns limit output text e within exits same out = (
+pub ends_by : (s t : State) (n turns limit : ℕ) (output text : List ℕ) → run n s ≡ t → n ≤ limit → IsExited t.core.ending → exit_text t.core ≡ text → t.out ≡ output → t.left ≡ s.left → Runs (Ends output text) s turns limit
+ends_by s t n turns limit output text e within exits same out left = (
   n,
   within,
   subst (λ (u : State). IsExited u.core.ending) (sym e) exits,
   subst (λ (u : State). exit_text u.core ≡ text) (sym e) same,
   subst (λ (u : State). u.out ≡ output) (sym e) out,
+  subst (λ (u : State). u.left ≡ s.left) (sym e) left,
 )
 
 -- What is asked of statements

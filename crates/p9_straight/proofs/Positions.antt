@@ -5,7 +5,7 @@ use Rattle.std.proofs.lemmas.Grind.{common_steps}
 use Rattle.std.proofs.lemmas.List.{length-replicate}
 use Rattle.std.specs.Prelude.{◌==◌}
 use Rattle.p9_base.specs.Numbers.{word_at, word_bytes}
-use Rattle.p9_lang.specs.Form.{same_name}
+use Rattle.p9_first.specs.Form.{same_name}
 use Rattle.p9_form.specs.Sharing.{Initial}
 use Rattle.p9_straight.specs.Layout.{Datum, Variable, Text, text_bytes, datum_bytes, variable_in, common_in}
 use Rattle.p9_straight.specs.FormRun.{initial_of}

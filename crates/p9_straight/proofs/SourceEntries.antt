@@ -2,19 +2,19 @@
 use Rattle.std.proofs.Common.{◌≡◌, ℕ, zero, suc, ◌+◌, Bool, true, false, ◌&&◌, ◌||◌, if◌then◌else◌, List, [], ◌∷◌, ◌++◌, map, Some, None, Option, refl, sym, ap, ◌∙◌, subst, arith, append_assoc}
 use Rattle.std.specs.Prelude.{◌==◌, codes, flat_map, slice_get, decimal}
 use Rattle.std.specs.List.{list_any}
-use Rattle.p9_lang.specs.Types.{TypeTree, Int, Long}
-use Rattle.p9_lang.specs.Layout.{size_of}
-use Rattle.p9_lang.specs.Form.{same_name}
-use Rattle.p9_lang.specs.Modules.{Typed, Source, SymbolKind, DeclaredOnly, Used, Code, Data, TextData, Common, Symbol, text_symbol, symbols}
+use Rattle.p9_first.specs.Types.{TypeTree, Int, Long}
+use Rattle.p9_first.specs.Layout.{size_of}
+use Rattle.p9_first.specs.Form.{same_name}
+use Rattle.p9_first.specs.Modules.{Typed, Source, SymbolKind, DeclaredOnly, Used, Code, Data, TextData, Common, Symbol, text_symbol, symbols}
 use Rattle.p9_form.specs.declared.file.Statement.{Statement}
 use Rattle.p9_form.specs.declared.file.First.{First}
 use Rattle.p9_form.specs.declared.file.First.TheVariants as first
 use Rattle.p9_form.specs.declared.file.Declaration.{Declaration}
 use Rattle.p9_form.specs.declared.file.File.{File}
 use Rattle.p9_form.specs.Sharing.{declarations, Initial, initial_in, tentative_in, main_in}
-use Rattle.p9_cmean.specs.Access.{number_cells}
-use Rattle.p9_cmean.specs.Union.{Entry, is_shared_data, is_shared_common, value_cells, is_shared_of, is_text_of, first_code}
-use Rattle.p9_cmean.proofs.Variables.{IsVariableType}
+use Rattle.p9_first.specs.Access.{number_cells}
+use Rattle.p9_first.specs.Union.{Entry, is_shared_data, is_shared_common, value_cells, is_shared_of, is_text_of, first_code}
+use Rattle.p9_first.proofs.Variables.{IsVariableType}
 use Rattle.p9_straight.proofs.SourceLists.{Each, each_append, each_left, each_right, each_weaker, each_map, eq_self, any_left, any_right, any_either, flat_append}
 use Rattle.p9_straight.proofs.SourceTyped.{Thing, AVariable, AMain, main_thing, things, MainItem, numbered, text_list, main_texts}
 use Rattle.p9_straight.proofs.SourceSymbols.{IsMere, IsKind, Makes, Make, IsSystemSymbol, HasSymbols}

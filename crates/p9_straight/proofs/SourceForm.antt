@@ -2,9 +2,9 @@
 use Rattle.std.proofs.Common.{◌≡◌, ◌≢◌, ◌≤◌, ℕ, ◌+◌, Bool, true, false, not, List, [], ◌∷◌, All, Some, None, Option, refl, sym, ◌∙◌, subst}
 use Rattle.std.proofs.lemmas.List.Elements.{All-nil, All-cons}
 use Rattle.std.specs.List.{list_all}
-use Rattle.p9_lang.specs.declared.tree.Kind.TheVariants as kind
-use Rattle.p9_lang.specs.Trees.{node, none, more, SyntaxRow}
-use Rattle.p9_lang.specs.Form.{is_among, is_text_byte, is_variable_name, IsOperand, IsSum, IsStatement, AreStatements, names_after, AreDeclarations, AreItems, IsFile}
+use Rattle.p9_first.specs.declared.tree.Kind.TheVariants as kind
+use Rattle.p9_first.specs.Trees.{node, none, more, SyntaxRow}
+use Rattle.p9_first.specs.Form.{is_among, is_text_byte, is_variable_name, IsOperand, IsSum, IsStatement, AreStatements, names_after, AreDeclarations, AreItems, IsFile}
 use Rattle.p9_form.specs.declared.file.Operand.{Operand}
 use Rattle.p9_form.specs.declared.file.Operand.TheVariants.{Variable, Number}
 use Rattle.p9_form.specs.declared.file.Statement.{Statement}

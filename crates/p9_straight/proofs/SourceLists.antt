@@ -3,8 +3,8 @@ use Rattle.std.proofs.Common.{◌≡◌, ◌≢◌, ◌<◌, ℕ, zero, suc, Boo
 use Rattle.std.proofs.lemmas.Bool.Decides.{nat_tests}
 use Rattle.std.specs.Prelude.{◌==◌, slice_get, slice_set, Contains, flat_map}
 use Rattle.std.specs.List.{list_any}
-use Rattle.p9_lang.specs.Form.{same_name}
-use Rattle.p9_cmean.specs.Union.{number_from}
+use Rattle.p9_first.specs.Form.{same_name}
+use Rattle.p9_first.specs.Union.{number_from}
 
 -- Truth
 

@@ -2,15 +2,15 @@
 use Rattle.std.proofs.Common.{◌≡◌, ◌≢◌, ◌≤◌, ℕ, Bool, true, false, not, ◌&&◌, ◌||◌, if◌then◌else◌, List, [], ◌∷◌, replicate, Some, None, Option, refl, sym, ap, ◌∙◌, subst, arith}
 use Rattle.std.specs.Prelude.{◌==◌, slice_get}
 use Rattle.std.specs.List.{list_any}
-use Rattle.p9_lang.specs.Form.{same_name, is_letter, is_name, is_variable_name}
-use Rattle.p9_lang.specs.Modules.{Source, SymbolKind, DeclaredOnly, Used, Code, Data, TextData, Common, Symbol}
+use Rattle.p9_first.specs.Form.{same_name, is_letter, is_name, is_variable_name}
+use Rattle.p9_first.specs.Modules.{Source, SymbolKind, DeclaredOnly, Used, Code, Data, TextData, Common, Symbol}
 use Rattle.p9_form.specs.Sharing.{Initial}
-use Rattle.p9_cmean.specs.Cells.{Global, Into, Byte, Object, Cell, Local}
-use Rattle.p9_cmean.specs.Access.{number_cells}
-use Rattle.p9_cmean.specs.Union.{Entry, entries, is_shared_data, is_shared_common, makes_object, makers, object_makers, first_objects, number_from, is_local_of, is_shared_of, has_local, object_pointer, function_named, is_text_of, text_pointer, start_of}
-use Rattle.p9_cmean.proofs.Variables.{Holds}
-use Rattle.p9_cmean.proofs.FormCalls.{text_object}
-use Rattle.p9_cmean.proofs.FormObjects.{FoundAt, number_found, object_of, object_at}
+use Rattle.p9_first.specs.Cells.{Global, Into, Byte, Object, Cell, Local}
+use Rattle.p9_first.specs.Access.{number_cells}
+use Rattle.p9_first.specs.Union.{Entry, entries, is_shared_data, is_shared_common, makes_object, makers, object_makers, first_objects, number_from, is_local_of, is_shared_of, has_local, object_pointer, function_named, is_text_of, text_pointer, start_of}
+use Rattle.p9_first.proofs.Variables.{Holds}
+use Rattle.p9_first.proofs.FormCalls.{text_object}
+use Rattle.p9_first.proofs.FormObjects.{FoundAt, number_found, object_of, object_at}
 use Rattle.p9_straight.specs.FormRun.{initial_of}
 use Rattle.p9_straight.proofs.SourceLists.{both_left, both_right, not_true, true_not, neither, neither_left, or_true, first_true, or_cases, bool_cases, eq_of, same_is, Each, each_weaker, each_at, any_weaker, none_passes, number_some}
 use Rattle.p9_straight.proofs.SourceEntries.{Dotted, SoundKind, Sound}

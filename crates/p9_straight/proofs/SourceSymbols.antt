@@ -1,17 +1,17 @@
 -- The symbols of a file's module.
 use Rattle.std.proofs.Common.{◌≡◌, ℕ, Bool, true, false, if◌then◌else◌, List, [], ◌∷◌, ◌++◌, map, Some, None, Option, refl, sym, ap, ◌∙◌, subst, append_assoc}
 use Rattle.std.specs.Prelude.{codes, filter}
-use Rattle.p9_lang.specs.declared.tree.Kind.TheVariants as kind
-use Rattle.p9_lang.specs.Types.{TypeTree}
-use Rattle.p9_lang.specs.Trees.{node, none}
-use Rattle.p9_lang.specs.Form.{same_name, is_among, is_variable_name}
-use Rattle.p9_lang.specs.Modules.{Label, Typed, Source, Declaration as Declared, Way, declarations as declared_by, declarations_of, uses_in_row, texts_of_row, SymbolKind, DeclaredOnly, Used, Code, Data, Common, Symbol, kind_of, system_names, system_type, first_type, symbol_of, new_names, declared_names, text_symbol, symbols}
+use Rattle.p9_first.specs.declared.tree.Kind.TheVariants as kind
+use Rattle.p9_first.specs.Types.{TypeTree}
+use Rattle.p9_first.specs.Trees.{node, none}
+use Rattle.p9_first.specs.Form.{same_name, is_among, is_variable_name}
+use Rattle.p9_first.specs.Modules.{Label, Typed, Source, Declaration as Declared, Way, declarations as declared_by, declarations_of, uses_in_row, texts_of_row, SymbolKind, DeclaredOnly, Used, Code, Data, Common, Symbol, kind_of, system_names, system_type, first_type, symbol_of, new_names, declared_names, text_symbol, symbols}
 use Rattle.p9_form.specs.declared.file.Statement.{Statement}
 use Rattle.p9_form.specs.declared.file.First.{First}
 use Rattle.p9_form.specs.declared.file.First.TheVariants as first
 use Rattle.p9_form.specs.declared.file.Declaration.{Declaration}
 use Rattle.p9_form.specs.declared.file.File.{File}
-use Rattle.p9_cmean.proofs.Variables.{IsVariableType}
+use Rattle.p9_first.proofs.Variables.{IsVariableType}
 use Rattle.p9_straight.proofs.SourceLists.{Each, each_weaker, each_both, each_map, bool_cases, neither, neither_left, neither_right, same_is, same_self, true_not}
 use Rattle.p9_straight.proofs.SourceForm.{AreNew, names_behind, FileForm}
 use Rattle.p9_straight.proofs.SourceTyped.{Thing, AVariable, AMain, main_thing, things, MainItem, IsWay, Stands, Stand, numbered, main_texts, IsSourceOf, other_name, no_main}

@@ -1,15 +1,15 @@
 -- What the items of a file's module declare, and the texts in them.
 use Rattle.std.proofs.Common.{◌≡◌, ℕ, ◌+◌, Bool, true, false, ◌||◌, if◌then◌else◌, List, [], ◌∷◌, ◌++◌, map, Some, None, Option, refl, sym, ap, ◌∙◌, subst, arith, append-nil}
 use Rattle.std.specs.Prelude.{codes, flat_map}
-use Rattle.p9_lang.specs.declared.tree.Spec.{Spec}
-use Rattle.p9_lang.specs.declared.tree.Kind.TheVariants as kind
-use Rattle.p9_lang.specs.Types.{TypeTree, Void, Int, Long, Function, Outer}
-use Rattle.p9_lang.specs.Types as types
-use Rattle.p9_lang.specs.Trees.{node, none, more, SyntaxRow, nodes_of}
-use Rattle.p9_lang.specs.Form.{same_name, is_among, is_variable_name, IsFile}
-use Rattle.p9_lang.specs.Typing.{Has, Scope, outer, named, texts_in, exits_type, transfer_type, system_scope, scope_after}
-use Rattle.p9_lang.specs.Modules.{Label, Typed, TypedRow, Source, Declaration as Declared, Way, Only, Tentative, Initial, Body, declarations as declared_by, declarations_in, TextObject, texts_of, texts_of_row}
-use Rattle.p9_lang.proofs.Labels.{typed_expression, typed_statement, typed_statements, typed_item, typed_items, source_items}
+use Rattle.p9_first.specs.declared.tree.Spec.{Spec}
+use Rattle.p9_first.specs.declared.tree.Kind.TheVariants as kind
+use Rattle.p9_first.specs.Types.{TypeTree, Void, Int, Long, Function, Outer}
+use Rattle.p9_first.specs.Types as types
+use Rattle.p9_first.specs.Trees.{node, none, more, SyntaxRow, nodes_of}
+use Rattle.p9_first.specs.Form.{same_name, is_among, is_variable_name, IsFile}
+use Rattle.p9_first.specs.Typing.{Has, Scope, outer, named, texts_in, exits_type, transfer_type, system_scope, scope_after}
+use Rattle.p9_first.specs.Modules.{Label, Typed, TypedRow, Source, Declaration as Declared, Way, Only, Tentative, Initial, Body, declarations as declared_by, declarations_in, TextObject, texts_of, texts_of_row}
+use Rattle.p9_first.proofs.Labels.{typed_expression, typed_statement, typed_statements, typed_item, typed_items, source_items}
 use Rattle.p9_form.specs.declared.file.Operand.{Operand}
 use Rattle.p9_form.specs.declared.file.Operand.TheVariants.{Variable, Number}
 use Rattle.p9_form.specs.declared.file.Statement.{Statement}
@@ -19,7 +19,7 @@ use Rattle.p9_form.specs.declared.file.First.TheVariants as first
 use Rattle.p9_form.specs.declared.file.Declaration.{Declaration}
 use Rattle.p9_form.specs.declared.file.File.{File}
 use Rattle.p9_form.specs.Items.{operand_tree, sum_tree, statement_tree, statement_trees, statement_size, declaration_tree, declaration_trees, declaration_size, declarations_size, main_tree, main_trees, main_size, items_of, source_of}
-use Rattle.p9_cmean.proofs.Variables.{IsVariableType}
+use Rattle.p9_first.proofs.Variables.{IsVariableType}
 use Rattle.p9_straight.proofs.SourceLists.{Each, bool_cases, or_cases, same_is, true_not}
 use Rattle.p9_straight.proofs.SourceRun.{AreFine, text_count, statement_texts}
 use Rattle.p9_straight.proofs.SourceForm.{AreNew, names_behind, Among, MainIsFine, FileForm}

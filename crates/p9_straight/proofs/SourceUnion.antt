@@ -2,8 +2,8 @@
 use Rattle.std.proofs.Common.{◌≡◌, ◌≢◌, ◌<◌, ◌≤◌, ℕ, suc, Bool, true, false, if◌then◌else◌, List, [], ◌∷◌, ◌++◌, length, map, Some, None, Option, refl, sym, ap, ◌∙◌, subst, arith}
 use Rattle.std.specs.Prelude.{flat_map, slice_get, slice_index_or, AllPairs}
 use Rattle.std.specs.List.{list_any}
-use Rattle.p9_lang.specs.Form.{same_name, IsFile}
-use Rattle.p9_lang.specs.Modules.{Typed, symbols}
+use Rattle.p9_first.specs.Form.{same_name, IsFile}
+use Rattle.p9_first.specs.Modules.{Typed, symbols}
 use Rattle.p9_form.specs.declared.file.Statement.{Statement}
 use Rattle.p9_form.specs.declared.file.First.{First}
 use Rattle.p9_form.specs.declared.file.First.TheVariants as first
@@ -11,7 +11,7 @@ use Rattle.p9_form.specs.declared.file.Declaration.{Declaration}
 use Rattle.p9_form.specs.declared.file.File.{File}
 use Rattle.p9_form.specs.Items.{items_of, source_of}
 use Rattle.p9_form.specs.Sharing.{declarations, Initial, initial_in, initials, tentative_in, tentatives, main_in, mains}
-use Rattle.p9_cmean.specs.Union.{Entry, entries_from, is_shared_data, is_shared_common, is_text_of, first_code}
+use Rattle.p9_first.specs.Union.{Entry, entries_from, is_shared_data, is_shared_common, is_text_of, first_code}
 use Rattle.p9_straight.specs.FormRun.{initial_of}
 use Rattle.p9_straight.proofs.SourceLists.{Each, each_append, each_left, each_right, any_left, any_right, any_either, same_self, not_same, flat_append, neither_left, neither_right}
 use Rattle.p9_straight.proofs.SourceForm.{IsBounded, AreNew, names_behind, file_form}

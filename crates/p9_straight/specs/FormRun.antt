@@ -2,8 +2,8 @@
 -- the run of the machine are both compared with it.
 use Rattle.std.specs.Prelude.{◌≡◌, ℕ, zero, suc, ◌+◌, if◌then◌else◌, List, [], ◌∷◌, ◌++◌, length, take, Option, Some, None, unwrap_or, nat_le, codes}
 use Rattle.p9_base.specs.Words.{word_sum, is_negative}
-use Rattle.p9_lang.specs.Form.{same_name}
-use Rattle.p9_cmean.specs.Turns.{Outcome, Ended, Out, Undefined, Deep}
+use Rattle.p9_first.specs.Form.{same_name}
+use Rattle.p9_first.specs.Turns.{Outcome, Ended, Out, Undefined, Deep}
 use Rattle.p9_form.specs.declared.file.Operand.{Operand}
 use Rattle.p9_form.specs.declared.file.Operand.TheVariants.{Variable, Number}
 use Rattle.p9_form.specs.declared.file.Statement.{Statement}

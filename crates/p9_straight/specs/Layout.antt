@@ -1,8 +1,8 @@
 -- The data of files that share variables, and the addresses of what lies in it.
 use Rattle.std.specs.Prelude.{ℕ, ◌+◌, ◌-◌, ◌*◌, ◌%◌, if◌then◌else◌, List, [], ◌∷◌, ◌++◌, length, map, flat_map, replicate, Option, Some, None, codes}
 use Rattle.p9_base.specs.Numbers.{word_bytes}
-use Rattle.p9_lang.specs.Form.{same_name}
-use Rattle.p9_lang.specs.Modules.{new_names}
+use Rattle.p9_first.specs.Form.{same_name}
+use Rattle.p9_first.specs.Modules.{new_names}
 use Rattle.p9_form.specs.declared.file.Statement.{Statement}
 use Rattle.p9_form.specs.declared.file.Statement.TheVariants.{Assign, Write, Exits}
 use Rattle.p9_form.specs.declared.file.File.{File}

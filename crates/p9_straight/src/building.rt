@@ -1,12 +1,14 @@
 // The executable of files that share variables.
 ghost use Rattle.std.specs.Prelude.{◌≡◌, ◌≤◌, ◌<◌, ◌^◌, [], length, map, All, IfOk, Ok};
 ghost use Rattle.p9_aout.specs.Image.{ImageParts, image_of, parts_of, IsWithinBounds};
-ghost use Rattle.p9_lang.specs.Form.{IsFile};
+ghost use Rattle.p9_first.specs.Form.{IsFile};
 ghost use Rattle.p9_form.specs.Items.{items_of, source_of};
 ghost use Rattle.p9_form.specs.Sharing.{AreJoined, IsSmall};
 ghost use Rattle.p9_straight.specs.Code.{parts_for};
 ghost use Rattle.p9_straight.specs.Building.{IsLaid};
-ghost use Rattle.p9_straight.specs.Headline.{KeepsMeaning, EndsInTime};
+ghost use Rattle.p9_headline.specs.Executable.{IsStripped};
+ghost use Rattle.p9_headline.specs.Headline.{KeepsMeaning};
+ghost use Rattle.p9_straight.specs.Headline.{EndsInTime, union_run};
 
 use crate::code::main_code;
 use crate::commons::add_files;
@@ -82,6 +84,7 @@ fn image_bytes(alloc: Global, files: &FileList) -> Result<Bytes, NoMemory>
     requires joined { AreJoined files.now }
     ensures image { IfOk result (λ bytes. image_of bytes ≡ Ok (parts_for files.now)) }
     ensures bounds { IfOk result (λ bytes. IsWithinBounds (parts_for files.now)) }
+    ensures stripped { IfOk result (λ bytes. IsStripped bytes) }
 {
     let image = image(alloc, &files.list)?;
     write_aout(alloc, &image)
@@ -96,7 +99,8 @@ pub fn compile(alloc: Global, files: &FileList) -> Result<Bytes, NoMemory>
     requires joined { AreJoined files.now }
     ensures image { IfOk result (λ bytes. image_of bytes ≡ Ok (parts_for files.now)) }
     ensures bounds { IfOk result (λ bytes. IsWithinBounds (parts_for files.now)) }
-    ensures keeps { IfOk result (λ bytes. KeepsMeaning (map source_of files.now) bytes) }
+    ensures stripped { IfOk result (λ bytes. IsStripped bytes) }
+    ensures keeps { IfOk result (λ bytes. KeepsMeaning (union_run (map source_of files.now)) bytes) }
     ensures ends { IfOk result (λ bytes. EndsInTime (map source_of files.now) bytes) }
 {
     image_bytes(alloc, files)

@@ -1,6 +1,6 @@
 -- Bytes have one form.
 use Rattle.std.proofs.Common.{◌≡◌, ℕ, List}
-use Rattle.p9_lang.specs.Tokens.{file_tokens}
+use Rattle.p9_first.specs.Tokens.{file_tokens}
 use Rattle.p9_form.specs.declared.file.File.{File}
 use Rattle.p9_form.specs.Items.{items_of}
 use Rattle.p9_form.specs.Spelling.{HasForm}

@@ -1,10 +1,10 @@
 -- The tokens of a file say which file it is.
 use Rattle.std.proofs.Common.{◌≡◌, ◌⊎◌, ℕ, suc, ◌+◌, Bool, true, false, List, [], ◌∷◌, ◌++◌, map, Option, Some, None, codes, inl, inr, refl, sym, ap, ◌∙◌, subst, append_assoc, arith}
 use Rattle.std.proofs.lemmas.List.{map-append}
-use Rattle.p9_lang.specs.Tokens.{Token, Word, Number, Text, Mark, End, tokens, tokens_from, file_tokens}
-use Rattle.p9_lang.specs.Trees.{SyntaxRow, more, none}
-use Rattle.p9_lang.specs.Form.{IsFile}
-use Rattle.p9_lang.specs.declared.tree.Kind.TheVariants as kind
+use Rattle.p9_first.specs.Tokens.{Token, Word, Number, Text, Mark, End, tokens, tokens_from, file_tokens}
+use Rattle.p9_first.specs.Trees.{SyntaxRow, more, none}
+use Rattle.p9_first.specs.Form.{IsFile}
+use Rattle.p9_first.specs.declared.tree.Kind.TheVariants as kind
 use Rattle.p9_form.specs.declared.file.Operand.{Operand}
 use Rattle.p9_form.specs.declared.file.Operand.TheVariants as operand
 use Rattle.p9_form.specs.declared.file.Statement.{Statement}

@@ -2,34 +2,63 @@
 use Rattle.std.specs.Prelude.{ℕ, List, [], ◌∷◌, ◌++◌, codes, decimal}
 use Rattle.std.specs.Int.{w32, to_be_bytes}
 use Rattle.hex.specs.Hex.{encode_lower}
+use Rattle.p9_aout.specs.declared.format.AoutFault.{AoutFault}
+use Rattle.p9_aout.specs.declared.format.AoutFault.TheVariants as executables
 use Rattle.p9_base.specs.declared.halt.HaltCause.{HaltCause}
 use Rattle.p9_base.specs.declared.halt.HaltCause.TheVariants as halts
+use Rattle.p9_names.specs.declared.table.LinkFault.{LinkFault}
+use Rattle.p9_names.specs.declared.table.LinkFault.TheVariants as links
 use Rattle.p9_suite.specs.declared.answer.Answer.{Answer}
-use Rattle.p9_suite.specs.declared.answer.Answer.TheVariants.{Ended, Usage, Twice, NoMain, MainType, Unresolved, Disagree, Absent, ReadFault, WriteFault, StoreFault, Memory, Halted, Spent, BadMagic, ShortFile, BadSegment, NotBuilt}
+use Rattle.p9_suite.specs.declared.answer.Answer.TheVariants.{Done, Usage, Refused, Ran}
+use Rattle.p9_suite.specs.declared.answer.End.{End}
+use Rattle.p9_suite.specs.declared.answer.End.TheVariants.{Exit, ReadFault, WriteFault, Halted, Spent}
+use Rattle.p9_suite.specs.declared.answer.Refusal.{Refusal}
+use Rattle.p9_suite.specs.declared.answer.Refusal.TheVariants.{Absent, StoreFault, NotBuilt, Link, Executable, Memory}
+
+-- Statuses
+
+abbrev pub link_status : LinkFault → ℕ
+link_status (links.Twice name i j) = 5
+link_status links.NoMain = 5
+link_status (links.MainType i) = 5
+link_status (links.Unresolved name i) = 5
+link_status (links.Disagree name i j) = 5
+link_status links.Memory = 10
+
+abbrev pub executable_status : AoutFault → ℕ
+executable_status (executables.BadMagic magic) = 13
+executable_status (executables.ShortFile need) = 13
+executable_status executables.BadSegment = 13
+executable_status executables.Memory = 10
+
+abbrev pub refusal_status : Refusal → ℕ
+refusal_status (Link why) = link_status why
+refusal_status (Absent file) = 6
+refusal_status (StoreFault file) = 9
+refusal_status Memory = 10
+refusal_status (Executable file why) = executable_status why
+refusal_status (NotBuilt file) = 16
+
+abbrev pub end_status : End → ℕ
+end_status (Exit text) = 1
+end_status ReadFault = 7
+end_status WriteFault = 8
+end_status (Halted cause pc) = 11
+end_status (Spent budget) = 12
 
 abbrev pub status : Answer → ℕ
-status (Ended []) = 0
-status (Ended (c ∷ cs)) = 1
+status Done = 0
 status Usage = 2
-status (Twice name i j) = 5
-status NoMain = 5
-status (MainType i) = 5
-status (Unresolved name i) = 5
-status (Disagree name i j) = 5
-status (Absent file) = 6
-status ReadFault = 7
-status WriteFault = 8
-status (StoreFault file) = 9
-status Memory = 10
-status (Halted cause pc) = 11
-status (Spent budget) = 12
-status (BadMagic file magic) = 13
-status (ShortFile file need) = 13
-status (BadSegment file) = 13
-status (NotBuilt file) = 16
+status (Refused why) = refusal_status why
+status (Ran end) = end_status end
+
+-- Lines
 
 abbrev pub newline : List ℕ
 newline = 10 ∷ []
+
+abbrev pub blank : List ℕ
+blank = codes " "
 
 -- an address, as eight hexadecimal digits with lower case letters
 abbrev pub address : ℕ → List ℕ
@@ -49,24 +78,41 @@ cause_text halts.Overflow = codes "Overflow"
 cause_text halts.Break = codes "Break"
 cause_text (halts.BadCall number) = codes "BadCall " ++ decimal number
 
+abbrev pub no_memory : List ℕ
+no_memory = codes "no memory" ++ newline
+
+abbrev pub link_line : LinkFault → List ℕ
+link_line (links.Twice name i j) = codes "vl: 40 Twice " ++ (name ++ (blank ++ (decimal i ++ (blank ++ (decimal j ++ newline)))))
+link_line (links.Unresolved name i) = codes "vl: 41 Unresolved " ++ (name ++ (blank ++ (decimal i ++ newline)))
+link_line (links.Disagree name i j) = codes "vl: 42 Disagree " ++ (name ++ (blank ++ (decimal i ++ (blank ++ (decimal j ++ newline)))))
+link_line links.NoMain = codes "vl: 43 NoMain" ++ newline
+link_line (links.MainType i) = codes "vl: 44 MainType " ++ (decimal i ++ newline)
+link_line links.Memory = no_memory
+
+abbrev pub executable_line : (file : List ℕ) → AoutFault → List ℕ
+executable_line file (executables.BadMagic magic) = file ++ (codes ": 50 BadMagic " ++ (decimal magic ++ newline))
+executable_line file (executables.ShortFile need) = file ++ (codes ": 51 ShortFile " ++ (decimal need ++ newline))
+executable_line file executables.BadSegment = file ++ (codes ": 52 BadSegment" ++ newline)
+executable_line file executables.Memory = no_memory
+
+abbrev pub refusal_line : Refusal → List ℕ
+refusal_line (Link why) = link_line why
+refusal_line (Absent file) = file ++ (codes ": absent" ++ newline)
+refusal_line (StoreFault file) = file ++ (codes ": store fault" ++ newline)
+refusal_line Memory = no_memory
+refusal_line (Executable file why) = executable_line file why
+refusal_line (NotBuilt file) = file ++ (codes ": not built" ++ newline)
+
+abbrev pub end_line : End → List ℕ
+end_line (Exit text) = text ++ newline
+end_line ReadFault = codes "read fault" ++ newline
+end_line WriteFault = codes "write fault" ++ newline
+end_line (Halted cause pc) = codes "halt " ++ (cause_text cause ++ (blank ++ (address pc ++ newline)))
+end_line (Spent budget) = codes "budget " ++ (decimal budget ++ newline)
+
 -- the line on the sink of errors
 abbrev pub message : Answer → List ℕ
-message (Ended []) = []
-message (Ended (c ∷ cs)) = (c ∷ cs) ++ newline
+message Done = []
 message Usage = codes "usage" ++ newline
-message (Twice name i j) = codes "vl: 40 Twice " ++ (name ++ (codes " " ++ (decimal i ++ (codes " " ++ (decimal j ++ newline)))))
-message NoMain = codes "vl: 43 NoMain" ++ newline
-message (MainType i) = codes "vl: 44 MainType " ++ (decimal i ++ newline)
-message (Unresolved name i) = codes "vl: 41 Unresolved " ++ (name ++ (codes " " ++ (decimal i ++ newline)))
-message (Disagree name i j) = codes "vl: 42 Disagree " ++ (name ++ (codes " " ++ (decimal i ++ (codes " " ++ (decimal j ++ newline)))))
-message (Absent file) = file ++ (codes ": absent" ++ newline)
-message ReadFault = codes "read fault" ++ newline
-message WriteFault = codes "write fault" ++ newline
-message (StoreFault file) = file ++ (codes ": store fault" ++ newline)
-message Memory = codes "no memory" ++ newline
-message (Halted cause pc) = codes "halt " ++ (cause_text cause ++ (codes " " ++ (address pc ++ newline)))
-message (Spent budget) = codes "budget " ++ (decimal budget ++ newline)
-message (BadMagic file magic) = file ++ (codes ": 50 BadMagic " ++ (decimal magic ++ newline))
-message (ShortFile file need) = file ++ (codes ": 51 ShortFile " ++ (decimal need ++ newline))
-message (BadSegment file) = file ++ (codes ": 52 BadSegment" ++ newline)
-message (NotBuilt file) = file ++ (codes ": not built" ++ newline)
+message (Refused why) = refusal_line why
+message (Ran end) = end_line end

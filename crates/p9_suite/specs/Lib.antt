@@ -1,8 +1,9 @@
-pub mod Commands
 pub mod Answers
+pub mod CommandLine
 pub mod Reports
-pub mod ViCommand
-pub mod RunCommand
-pub mod RunContent
+pub mod Stages
+pub mod Simulation
+pub mod Scene
+pub mod Told
+pub mod commands
 pub mod Suite
-pub mod Shown

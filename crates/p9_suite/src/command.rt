@@ -1,19 +1,33 @@
 // The words of a command line.
 ghost use Rattle.std.specs.Prelude.{◌≡◌, MatchOption, Some, None};
 ghost use Rattle.std.specs.List.{list_all};
-ghost use Rattle.p9_suite.specs.Commands.{command_of, command_seen, is_file, is_source, run_of, vi_of, vi_words};
+ghost use Rattle.p9_suite.specs.CommandLine.{command_of, command_seen, is_file, is_source, run_of, vi_of, vi_words};
 
 use crate::number::number;
 use p9_base::{Name, Words};
+use p9_headline::DEFAULT_BUDGET;
+
+/// `run`: the files are compiled, the executable is written by the name `output`, and simulated for
+/// at most `budget` instructions.
+#[derive(Clone, Copy)]
+pub(crate) struct Run<'a> {
+    pub(crate) budget: u32,
+    pub(crate) output: &'a [u8],
+    pub(crate) files: &'a [Name],
+}
+
+/// `vi`: the file is simulated for at most `budget` instructions.
+#[derive(Clone, Copy)]
+pub(crate) struct Vi<'a> {
+    pub(crate) budget: u32,
+    pub(crate) file: &'a Name,
+}
 
 /// What the words ask for.
 pub(crate) enum Command<'a> {
-    Run(&'a [Name]),
-    Vi { budget: u32, file: &'a Name },
+    Run(Run<'a>),
+    Vi(Vi<'a>),
 }
-
-/// So many instructions are simulated where no option says how many.
-pub(crate) const BUDGET: u32 = 100_000_000;
 
 /// `run` takes so many files at most.
 const MOST_FILES: usize = 16;
@@ -51,7 +65,11 @@ fn run_of(files: &[Name]) -> Option<Command<'_>>
     ensures { MatchOption result (run_of files.now ≡ None) (λ c. run_of files.now ≡ Some (command_seen c)) }
 {
     if 1 <= files.len() && files.len() <= MOST_FILES && are_sources(files) {
-        Some(Command::Run(files))
+        Some(Command::Run(Run {
+            budget: DEFAULT_BUDGET,
+            output: b"v.out",
+            files,
+        }))
     } else {
         None
     }
@@ -62,7 +80,7 @@ fn vi_of(budget: u32, file: &Name) -> Option<Command<'_>>
     ensures { MatchOption result (vi_of (Some budget) file.now ≡ None) (λ c. vi_of (Some budget) file.now ≡ Some (command_seen c)) }
 {
     if is_file(&file.list) {
-        Some(Command::Vi { budget, file })
+        Some(Command::Vi(Vi { budget, file }))
     } else {
         None
     }
@@ -73,7 +91,7 @@ fn vi_words(words: &[Name]) -> Option<Command<'_>>
     ensures { MatchOption result (vi_words words.now ≡ None) (λ c. vi_words words.now ≡ Some (command_seen c)) }
 {
     match words {
-        [file] => vi_of(BUDGET, file),
+        [file] => vi_of(DEFAULT_BUDGET, file),
         [option, digits, file] => {
             if option.list.as_slice() == b"-n".as_slice() {
                 match number(&digits.list) {

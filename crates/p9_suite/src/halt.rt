@@ -4,8 +4,7 @@ ghost use Rattle.p9_suite.specs.Answers.{address, cause_text, newline};
 ghost use Rattle.p9_suite.specs.Reports.{Whole, Cut};
 
 use crate::put::{put_address, put_address_line, put_all, put_number};
-use p9_base::Sink;
-use p9_r3k::HaltCause;
+use p9_base::{HaltCause, Sink};
 
 // Puts the name of a cause, and its address or its number.
 #[tactic(auto, using(crate::proofs::Puts::line_is))]

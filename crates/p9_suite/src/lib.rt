@@ -3,18 +3,18 @@
 
 mod answer;
 mod command;
+mod commands;
 mod copied;
-mod exit_text;
 mod halt;
+mod message;
 mod number;
 mod put;
-mod read;
 mod report;
-mod run;
+mod stages;
 #[cfg(test)]
 mod tests;
 mod top;
-mod vi;
 
-pub use answer::Answer;
+pub use answer::{Answer, End, Refusal};
+pub use message::Message;
 pub use top::suite;

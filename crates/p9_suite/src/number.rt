@@ -1,6 +1,6 @@
 // Numbers of a command line.
 ghost use Rattle.std.specs.Prelude.{◌≡◌};
-ghost use Rattle.p9_suite.specs.Commands.{number_of, with_digit};
+ghost use Rattle.p9_suite.specs.CommandLine.{number_of, with_digit};
 
 // The number that a digit makes behind those of `n`.
 fn with_digit(n: u32, digit: u8) -> Option<u32>

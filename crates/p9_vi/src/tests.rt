@@ -3,7 +3,7 @@ ghost use Rattle.std.specs.Prelude.{◌<◌, length};
 
 use crate::{Machine, Stop, simulate};
 use p9_aout::Image;
-use p9_base::{Bytes, Calls, MemSink, MemSource, NoMemory};
+use p9_base::{ByteOrder, Bytes, Calls, MemSink, MemSource, NoMemory};
 use p9_r3k::HaltCause;
 use std::alloc::Global;
 use std::test::Fail;
@@ -296,5 +296,40 @@ fn texts_cross_and_faults_go_on(rt: HostRuntime) -> Result<(), Fail> {
     let end = end_of(alloc, text, b"abcde", b"xyz", &[0])?.ok_or("bad image")?;
     assert_eq!(rt; end.stop, Stop::WriteFault);
     assert_eq!(rt; end.output.as_slice(), b"ab".as_slice());
+    Ok(())
+}
+
+#[test]
+fn little_endian_programs_run(rt: HostRuntime) -> Result<(), Fail> {
+    let alloc = rt.alloc();
+    // ADDIU R29, R29, -16; ADDIU R1, R0, 8; SYSCALL: exits, with the address 0.
+    let text = [0xf0, 0xff, 0xbd, 0x27, 8, 0, 1, 0x24, 12, 0, 0, 0];
+    let image = Image {
+        entry: 0x1020,
+        text: Bytes {
+            list: text.to_vec(alloc)?,
+        },
+        init: Bytes {
+            list: Vec::new(alloc),
+        },
+        bss: 0,
+        syms: Vec::new(alloc),
+    };
+    if image.text.list.len() == 12 {
+        let mut machine = Machine::new(alloc, &image)?.in_order(ByteOrder::Little);
+        let none = Bytes {
+            list: Vec::new(alloc),
+        };
+        let never = Calls {
+            list: Vec::new(alloc),
+        };
+        let mut source = MemSource::new(none, never);
+        let never = Calls {
+            list: Vec::new(alloc),
+        };
+        let mut sink = MemSink::new(alloc, 0, never)?;
+        let stop = simulate(&mut machine, &mut source, &mut sink, 100);
+        assert_eq!(rt; stop, Stop::Exit);
+    }
     Ok(())
 }

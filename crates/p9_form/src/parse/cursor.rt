@@ -1,6 +1,6 @@
 // A parser's place among the tokens.
 ghost use Rattle.std.specs.Prelude.{◌≡◌, ◌||◌, codes, List, [], ◌∷◌, Some, None, true, false, MatchOption, IfOk, IfErr};
-ghost use Rattle.p9_lang.specs.Form.{same_name};
+ghost use Rattle.p9_first.specs.Form.{same_name};
 ghost use Rattle.p9_form.specs.Scanning.{token_seen, seen};
 ghost use Rattle.p9_form.specs.Reading.{got, is_that_mark, read_mark, read_word, read_number, read_text, is_that_word, read_this};
 ghost use Rattle.p9_form.specs.Found.{begins_declaration, is_end};
@@ -52,7 +52,7 @@ pub(crate) struct Cursor<'a> {
 
 impl<'a> Model for Cursor<'a> {
     ghost use Rattle.std.specs.Prelude.{List};
-    ghost use Rattle.p9_lang.specs.Tokens.{Token};
+    ghost use Rattle.p9_first.specs.Tokens.{Token};
     ghost use Rattle.p9_form.specs.Scanning.{seen};
 
     ghost Value = { List Token };

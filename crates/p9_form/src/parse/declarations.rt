@@ -1,6 +1,6 @@
 // Declarations.
 ghost use Rattle.std.specs.Prelude.{◌≡◌, ◌&&◌, not, None, Some, IfOk, IfErr, codes};
-ghost use Rattle.p9_lang.specs.Form.{is_variable_name, is_among};
+ghost use Rattle.p9_first.specs.Form.{is_variable_name, is_among};
 ghost use Rattle.p9_form.specs.Reading.{got, read_type, read_new_name, read_value, read_first, read_typed, read_declaration};
 ghost use Rattle.p9_form.specs.Phrases.{declared};
 ghost use Rattle.p9_form.specs.Found.{AreDeclared, HasNoDeclarations};

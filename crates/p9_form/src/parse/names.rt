@@ -3,7 +3,7 @@ ghost use Rattle.std.specs.Prelude.{◌≡◌, false, List, ◌∷◌, [], OnOk}
 ghost use Rattle.std.specs.Str.{bytes_eq};
 ghost use Rattle.indexmap.specs.IndexSet.{insert_key};
 ghost use Rattle.std.specs.List.{list_all, list_any};
-ghost use Rattle.p9_lang.specs.Form.{same_name, is_among, is_letter_or_digit, is_name, keywords, functions, is_variable_name};
+ghost use Rattle.p9_first.specs.Form.{same_name, is_among, is_letter_or_digit, is_name, keywords, functions, is_variable_name};
 
 use crate::scan::{is_letter, is_letter_or_digit};
 use indexmap::IndexSet;

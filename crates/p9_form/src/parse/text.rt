@@ -1,7 +1,7 @@
 // The characters of texts.
 ghost use Rattle.std.specs.Prelude.{◌≡◌};
 ghost use Rattle.std.specs.List.{list_all};
-ghost use Rattle.p9_lang.specs.Form.{is_text_byte};
+ghost use Rattle.p9_first.specs.Form.{is_text_byte};
 
 use p9_base::Bytes;
 

@@ -1,9 +1,8 @@
-use Rattle.std.proofs.Common.{get_or, refl}
+use Rattle.std.proofs.Common.{get_or, refl, take}
 use Rattle.std.proofs.lemmas.Result.{err_from_is_err_and}
 use Rattle.p9_names.proofs.Steps.{nowhere, seen-places, place-at, agrees-turn, disagree-turn, agrees-end, notes-places}
 use Rattle.p9_names.proofs.Agreed.{has_signature}
 use Rattle.p9_names.specs.Passes.{has_size}
-use Rattle.std.proofs.Common.{take}
 use Rattle.p9_names.proofs.agreement.check_agreement.Goals as goal
 
 pub compare-requires-clause-places : goal.compare-requires-clause-places

@@ -1,7 +1,7 @@
 use Rattle.std.proofs.Common.{◌≡◌, ℕ, ◌<◌, ◌||◌, false, get_or, length}
 use Rattle.std.specs.List.{list_any}
 use Rattle.p9_abs.specs.Modules.{named_by_piece}
-use Rattle.p9_names.specs.Linking.{is_number}
+use Rattle.p9_abs.specs.Names.{is_number}
 use Rattle.p9_names.proofs.uses.mark_pieces.Given as goal
 
 abbrev pub invariant-loop-rest : goal.invariant-loop-rest

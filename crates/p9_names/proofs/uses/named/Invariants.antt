@@ -1,6 +1,6 @@
 use Rattle.std.proofs.Common.{◌≡◌, ℕ, ◌<◌, ◌||◌, false, get_or, length}
 use Rattle.std.specs.List.{list_any}
-use Rattle.p9_names.specs.Linking.{body_names, module_names}
+use Rattle.p9_abs.specs.Names.{body_names, module_names}
 use Rattle.p9_names.proofs.uses.named.Given as goal
 
 abbrev pub invariant-loop-rest : goal.invariant-loop-rest

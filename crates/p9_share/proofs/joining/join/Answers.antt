@@ -1,6 +1,7 @@
 use Rattle.std.proofs.Common.{map, IfErr, sym, ◌∙◌, subst, List}
 use Rattle.p9_form.specs.declared.file.File.{File}
-use Rattle.p9_names.specs.Answers.{linked, IsRefusal}
+use Rattle.p9_abs.specs.BuiltIn.{linked}
+use Rattle.p9_names.specs.Answers.{IsRefusal}
 use Rattle.p9_share.specs.Symbols.{module_of}
 use Rattle.p9_share.proofs.joining.join.Goals as goal
 

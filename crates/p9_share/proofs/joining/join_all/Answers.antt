@@ -1,6 +1,7 @@
 use Rattle.std.proofs.Common.{sym, subst, List}
 use Rattle.p9_abs.specs.declared.modules.AModule.{AModule}
-use Rattle.p9_names.specs.Answers.{linked, IsRefusal}
+use Rattle.p9_abs.specs.BuiltIn.{linked}
+use Rattle.p9_names.specs.Answers.{IsRefusal}
 use Rattle.p9_share.proofs.Valid.{all_valid}
 use Rattle.p9_share.proofs.Joined.{ok_other, err_other}
 use Rattle.p9_share.proofs.Together.{files_join}

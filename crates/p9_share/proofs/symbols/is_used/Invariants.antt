@@ -1,5 +1,5 @@
 use Rattle.std.proofs.Common.{◌≡◌, length, flat_map}
-use Rattle.p9_lang.specs.Form.{is_among}
+use Rattle.p9_first.specs.Form.{is_among}
 use Rattle.p9_form.specs.Sharing.{names_in}
 use Rattle.p9_share.proofs.symbols.is_used.Given as goal
 

@@ -1,6 +1,6 @@
 use Rattle.std.proofs.Common.{◌≡◌, length}
 use Rattle.std.specs.List.{list_all}
-use Rattle.p9_suite.specs.Commands.{is_source}
+use Rattle.p9_suite.specs.CommandLine.{is_source}
 use Rattle.p9_suite.proofs.command.are_sources.Given as goal
 
 abbrev pub invariant-loop-rest : goal.invariant-loop-rest

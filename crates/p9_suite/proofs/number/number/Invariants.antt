@@ -1,5 +1,5 @@
 use Rattle.std.proofs.Common.{◌≡◌, Some, length}
-use Rattle.p9_suite.specs.Commands.{with_digits}
+use Rattle.p9_suite.specs.CommandLine.{with_digits}
 use Rattle.p9_suite.proofs.number.number.Given as goal
 
 abbrev pub invariant-loop-rest : goal.invariant-loop-rest

@@ -1,0 +1,13 @@
+pub mod Counting
+pub mod Sizes
+pub mod Fuel
+pub mod Flags
+pub mod Derived
+pub mod Steps
+pub mod Going
+pub mod Sound
+pub mod Using
+pub mod Params
+pub mod Walking
+pub mod Complete
+pub mod Told

@@ -1,0 +1,11 @@
+pub mod Lists
+pub mod Macros
+pub mod Expansion
+pub mod Derivation
+pub mod Reading
+pub mod Items
+pub mod Directives
+pub mod Groups
+pub mod Headers
+pub mod Units
+pub mod Calls

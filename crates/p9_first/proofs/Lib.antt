@@ -1,0 +1,15 @@
+pub mod Nodes
+pub mod Sources
+pub mod FileExamples
+pub mod Labels
+pub mod Plays
+pub mod Calls
+pub mod Outputs
+pub mod Later
+pub mod Fitting
+pub mod Runs
+pub mod Variables
+pub mod FormPlays
+pub mod FormCalls
+pub mod FormObjects
+pub mod Examples

@@ -1,0 +1,6 @@
+pub mod Trees
+pub mod Symbols
+pub mod Scopes
+pub mod Grammar
+pub mod Machine
+pub mod Promise

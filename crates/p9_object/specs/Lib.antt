@@ -1,0 +1,5 @@
+pub mod Fields
+pub mod Machine
+pub mod Bytes
+pub mod Laws
+pub mod Examples

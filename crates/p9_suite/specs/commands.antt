@@ -1,0 +1,4 @@
+pub mod Vi
+pub mod Run
+pub mod Headline
+pub mod Form

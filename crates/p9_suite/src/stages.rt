@@ -1,0 +1,6 @@
+// The stages of which commands are made.
+mod files;
+mod simulation;
+
+pub(crate) use files::{read_file, write_file};
+pub(crate) use simulation::run_file;

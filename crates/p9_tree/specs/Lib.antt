@@ -1,0 +1,9 @@
+pub mod Trees
+pub mod Operations
+pub mod Meaning
+pub mod Modules
+pub mod Same
+pub mod Charges
+pub mod TRun
+pub mod Contents
+pub mod Means
