@@ -12,5 +12,6 @@ pub mod ExamplesOfStatements
 pub mod ExamplesOfCalls
 pub mod ExamplesOfFiles
 pub mod ExamplesOfUndefined
+pub mod ExamplesOfMisuse
 pub mod ExamplesOfWordCounter
 pub mod Constants

@@ -22,5 +22,6 @@ pub mod ExamplesOfStatements
 pub mod ExamplesOfCalls
 pub mod ExamplesOfFiles
 pub mod ExamplesOfUndefined
+pub mod ExamplesOfMisuse
 pub mod ExamplesOfWordCounter
 pub mod ConstantLaws

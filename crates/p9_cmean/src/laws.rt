@@ -6,6 +6,7 @@ ghost use Rattle.p9_cmean.specs.ExamplesOfStatements.{RunsOfStatements};
 ghost use Rattle.p9_cmean.specs.ExamplesOfCalls.{RunsOfCalls};
 ghost use Rattle.p9_cmean.specs.ExamplesOfFiles.{RunsOfFiles};
 ghost use Rattle.p9_cmean.specs.ExamplesOfUndefined.{RunsOfUndefined};
+ghost use Rattle.p9_cmean.specs.ExamplesOfMisuse.{RunsOfMisuse};
 ghost use Rattle.p9_cmean.specs.ExamplesOfWordCounter.{RunsOfWordCounter};
 ghost use Rattle.p9_cmean.specs.RunLaws.{AccessInverts, BodiesLast, InputFalls, OutputGrows, RunsGoOn};
 
@@ -115,6 +116,13 @@ pub fn runs_of_files()
 #[tactic(auto, using(crate::proofs::ExamplesOfUndefined::runs_of_undefined))]
 pub fn runs_of_undefined()
     ensures { RunsOfUndefined }
+{}
+
+/// What programs of one file come to that use the same declared objects and functions in ways that are
+/// undefined.
+#[tactic(auto, using(crate::proofs::ExamplesOfMisuse::runs_of_misuse))]
+pub fn runs_of_misuse()
+    ensures { RunsOfMisuse }
 {}
 
 /// Two parts of a program that counts words.
