@@ -23,5 +23,8 @@ pub mod ExamplesOfCalls
 pub mod ExamplesOfFiles
 pub mod ExamplesOfUndefined
 pub mod ExamplesOfMisuse
+pub mod ExamplesOfOperators
+pub mod ExamplesOfFlow
+pub mod ExamplesOfMissing
 pub mod ExamplesOfWordCounter
 pub mod ConstantLaws

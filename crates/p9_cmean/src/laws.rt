@@ -7,6 +7,9 @@ ghost use Rattle.p9_cmean.specs.ExamplesOfCalls.{RunsOfCalls};
 ghost use Rattle.p9_cmean.specs.ExamplesOfFiles.{RunsOfFiles};
 ghost use Rattle.p9_cmean.specs.ExamplesOfUndefined.{RunsOfUndefined};
 ghost use Rattle.p9_cmean.specs.ExamplesOfMisuse.{RunsOfMisuse};
+ghost use Rattle.p9_cmean.specs.ExamplesOfOperators.{RunsOfOperators};
+ghost use Rattle.p9_cmean.specs.ExamplesOfFlow.{RunsOfFlow};
+ghost use Rattle.p9_cmean.specs.ExamplesOfMissing.{RunsOfMissing};
 ghost use Rattle.p9_cmean.specs.ExamplesOfWordCounter.{RunsOfWordCounter};
 ghost use Rattle.p9_cmean.specs.RunLaws.{AccessInverts, BodiesLast, InputFalls, OutputGrows, RunsGoOn};
 
@@ -123,6 +126,27 @@ pub fn runs_of_undefined()
 #[tactic(auto, using(crate::proofs::ExamplesOfMisuse::runs_of_misuse))]
 pub fn runs_of_misuse()
     ensures { RunsOfMisuse }
+{}
+
+/// What small programs for operators, constants, casts, updates and the order of operands come to, and how
+/// many bytes structure copies move.
+#[tactic(auto, using(crate::proofs::ExamplesOfOperators::runs_of_operators))]
+pub fn runs_of_operators()
+    ensures { RunsOfOperators }
+{}
+
+/// What small programs for every form of `if`, `for` and `switch` come to, how many turns they take, and
+/// what dies by `break` and `return`.
+#[tactic(auto, using(crate::proofs::ExamplesOfFlow::runs_of_flow))]
+pub fn runs_of_flow()
+    ensures { RunsOfFlow }
+{}
+
+/// What programs come to that use a value that a call didn't give, that break several rules on accesses
+/// at once, or that call the system with pointers that it can't use.
+#[tactic(auto, using(crate::proofs::ExamplesOfMissing::runs_of_missing))]
+pub fn runs_of_missing()
+    ensures { RunsOfMissing }
 {}
 
 /// Two parts of a program that counts words.
