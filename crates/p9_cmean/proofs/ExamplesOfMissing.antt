@@ -3,7 +3,7 @@ use Rattle.std.proofs.Common.{◌≡◌, [], Some, refl}
 use Rattle.p9_cmean.specs.declared.Cause.TheVariants as cause
 use Rattle.p9_cmean.specs.CRun.{source_run}
 use Rattle.p9_cmean.specs.ExampleRuns.{Ends, IsUndefined, run}
-use Rattle.p9_cmean.specs.ExamplesOfMissing.{unused, as_operand, as_test, as_argument, as_result, as_part, as_address, as_case, null_substructure, copied_past_the_end, misaligned_first, updated_unset, within_parentheses, written_pointer, pointer_as_text, written_null, read_to_null, dead_text, RunsOfMissing}
+use Rattle.p9_cmean.specs.ExamplesOfMissing.{unused, as_operand, as_test, as_argument, as_result, as_part, as_address, as_case, null_substructure, copied_past_the_end, misaligned_first, before_its_object, compared_outside, unsigned_count, negative_index, called_dead, updated_unset, within_parentheses, written_pointer, pointer_as_text, written_null, read_to_null, dead_text, RunsOfMissing}
 
 runs_unused_is : run unused [] 5 ≡ Some (Ends [] [] [])
 unfolding run source_run
@@ -49,6 +49,26 @@ runs_misaligned_first_is : run misaligned_first [] 2 ≡ Some (IsUndefined [] ca
 unfolding run source_run
 runs_misaligned_first_is = refl
 
+runs_before_its_object_is : run before_its_object [] 2 ≡ Some (IsUndefined [] cause.Range 0 13)
+unfolding run source_run
+runs_before_its_object_is = refl
+
+runs_compared_outside_is : run compared_outside [] 2 ≡ Some (IsUndefined [] cause.Range 0 13)
+unfolding run source_run
+runs_compared_outside_is = refl
+
+runs_unsigned_count_is : run unsigned_count [] 2 ≡ Some (IsUndefined [] cause.Range 0 30)
+unfolding run source_run
+runs_unsigned_count_is = refl
+
+runs_negative_index_is : run negative_index [] 2 ≡ Some (IsUndefined [] cause.Range 0 9)
+unfolding run source_run
+runs_negative_index_is = refl
+
+runs_called_dead_is : run called_dead [] 2 ≡ Some (IsUndefined [] cause.Dead 0 31)
+unfolding run source_run
+runs_called_dead_is = refl
+
 runs_updated_unset_is : run updated_unset [] 2 ≡ Some (IsUndefined [] cause.Unset 0 10)
 unfolding run source_run
 runs_updated_unset_is = refl
@@ -90,6 +110,11 @@ runs_of_missing = record {
   runs_null_substructure = runs_null_substructure_is;
   runs_copied_past_the_end = runs_copied_past_the_end_is;
   runs_misaligned_first = runs_misaligned_first_is;
+  runs_before_its_object = runs_before_its_object_is;
+  runs_compared_outside = runs_compared_outside_is;
+  runs_unsigned_count = runs_unsigned_count_is;
+  runs_negative_index = runs_negative_index_is;
+  runs_called_dead = runs_called_dead_is;
   runs_updated_unset = runs_updated_unset_is;
   runs_within_parentheses = runs_within_parentheses_is;
   runs_written_pointer = runs_written_pointer_is;

@@ -1,8 +1,9 @@
 -- The runs are computed.
 use Rattle.std.proofs.Common.{◌≡◌, [], Some, refl}
+use Rattle.std.specs.Prelude.{codes}
 use Rattle.p9_cmean.specs.CRun.{source_run}
 use Rattle.p9_cmean.specs.ExampleRuns.{Ends, run, bytes_copied}
-use Rattle.p9_cmean.specs.ExamplesOfOperators.{constants, bits, short_circuit, places_first, updates, casts, compared, without_values, copies, RunsOfOperators}
+use Rattle.p9_cmean.specs.ExamplesOfOperators.{constants, bits, short_circuit, places_first, updates, casts, compared, without_values, texts_apart, unevaluated, copies, RunsOfOperators}
 
 runs_constants_is : run constants [] 2 ≡ Some (Ends [] [] [])
 unfolding run source_run
@@ -36,6 +37,14 @@ runs_without_values_is : run without_values [] 5 ≡ Some (Ends [] [] [])
 unfolding run source_run
 runs_without_values_is = refl
 
+runs_texts_apart_is : run texts_apart [] 3 ≡ Some (Ends (codes "xbc") [] [])
+unfolding run source_run
+runs_texts_apart_is = refl
+
+runs_unevaluated_is : run unevaluated [] 2 ≡ Some (Ends [] [] [])
+unfolding run source_run
+runs_unevaluated_is = refl
+
 runs_copies_is : run copies [] 2 ≡ Some (Ends [] [] [])
 unfolding run source_run
 runs_copies_is = refl
@@ -54,6 +63,8 @@ runs_of_operators = record {
   runs_casts = runs_casts_is;
   runs_compared = runs_compared_is;
   runs_without_values = runs_without_values_is;
+  runs_texts_apart = runs_texts_apart_is;
+  runs_unevaluated = runs_unevaluated_is;
   runs_copies = runs_copies_is;
   copies_copies = copies_copies_is;
 }

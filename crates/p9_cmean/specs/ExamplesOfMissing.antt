@@ -1,5 +1,6 @@
--- Programs for values that calls don't give, for accesses with several causes, and for system calls
--- with pointers that they can't use. The number is that of the operation's node.
+-- Programs for values that calls don't give, for accesses with several causes, for pointers outside
+-- their objects, and for system calls with pointers that they can't use. The number is that of the
+-- operation's node.
 use Rattle.std.specs.Prelude.{◌≡◌, true, false, List, [], ◌∷◌, Some, None, codes}
 use Rattle.p9_lang.specs.declared.tree.CBinary.TheVariants as operator
 use Rattle.p9_lang.specs.declared.tree.CUnary.TheVariants as unary
@@ -8,7 +9,7 @@ use Rattle.p9_lang.specs.declared.tree.Kind.TheVariants as kind
 use Rattle.p9_lang.specs.Trees.{Syntax}
 use Rattle.p9_lang.specs.ExampleTrees.{tree, leaf, declaration, function, member, parameter, named_type, named, used, number, binary}
 use Rattle.p9_cmean.specs.declared.Cause.TheVariants as cause
-use Rattle.p9_cmean.specs.ExampleRuns.{variable, main, no_parameters, block, effect, call, assign, unary_of, if_holds, returns, parens, Ends, IsUndefined, run}
+use Rattle.p9_cmean.specs.ExampleRuns.{variable, main, no_parameters, block, effect, call, assign, unary_of, if_holds, returns, element, parens, Ends, IsUndefined, run}
 
 -- int f(void){ } void main(void){ f(); (void)f(); f(), exits(0); }
 abbrev pub unused : List (List Syntax)
@@ -114,6 +115,61 @@ misaligned_first =
     (unary_of unary.Deref (tree kind.Cast (named_type (word.Int ∷ []) (leaf (kind.Star []) ∷ [])
     ∷ parens (binary operator.Add (used (codes "c") ∷ number 3 ∷ [])) ∷ []))) (number 1)) ∷ []) ∷ []) ∷ []
 
+-- char c[2], *p = c - 1; void main(void){ exits(p); }
+abbrev pub before_its_object : List (List Syntax)
+before_its_object =
+    (declaration (word.Char ∷ []) (false ∷ true ∷ [])
+    (tree (kind.Brackets true true) (named (codes "c") ∷ number 2 ∷ [])
+    ∷ tree (kind.Star []) (named (codes "p") ∷ [])
+    ∷ binary operator.Sub (used (codes "c") ∷ number 1 ∷ []) ∷ [])
+    ∷ main (effect (call (used (codes "exits")) (used (codes "p") ∷ [])) ∷ []) ∷ []) ∷ []
+
+-- char c[2], *p = c - 1; void main(void){ if(p == c) exits(0); }
+abbrev pub compared_outside : List (List Syntax)
+compared_outside =
+    (declaration (word.Char ∷ []) (false ∷ true ∷ [])
+    (tree (kind.Brackets true true) (named (codes "c") ∷ number 2 ∷ [])
+    ∷ tree (kind.Star []) (named (codes "p") ∷ [])
+    ∷ binary operator.Sub (used (codes "c") ∷ number 1 ∷ []) ∷ [])
+    ∷ main (if_holds (binary operator.Eq (used (codes "p") ∷ used (codes "c") ∷ []))
+    (effect (call (used (codes "exits")) (number 0 ∷ []))) ∷ []) ∷ []) ∷ []
+
+-- int a[2], *p; void main(void){ p = a + 1; p = p + -1; p = a + 1; p = p + 4294967295; }
+abbrev pub unsigned_count : List (List Syntax)
+unsigned_count =
+    (declaration (word.Int ∷ []) (false ∷ false ∷ [])
+    (tree (kind.Brackets true true) (named (codes "a") ∷ number 2 ∷ [])
+    ∷ tree (kind.Star []) (named (codes "p") ∷ []) ∷ [])
+    ∷ main
+    (effect (assign (used (codes "p")) (binary operator.Add (used (codes "a") ∷ number 1 ∷ [])))
+    ∷ effect (assign (used (codes "p"))
+    (binary operator.Add (used (codes "p") ∷ unary_of unary.Minus (number 1) ∷ [])))
+    ∷ effect (assign (used (codes "p")) (binary operator.Add (used (codes "a") ∷ number 1 ∷ [])))
+    ∷ effect
+    (assign (used (codes "p")) (binary operator.Add (used (codes "p") ∷ number 4294967295 ∷ []))) ∷ []) ∷ []) ∷ []
+
+-- int a[2]; void main(void){ a[-1] = 1; }
+abbrev pub negative_index : List (List Syntax)
+negative_index =
+    (declaration (word.Int ∷ []) (false ∷ [])
+    (tree (kind.Brackets true true) (named (codes "a") ∷ number 2 ∷ []) ∷ [])
+    ∷ main
+    (effect (assign (element (used (codes "a")) (unary_of unary.Minus (number 1))) (number 1)) ∷ []) ∷ []) ∷ []
+
+-- void (*h)(void); int *p; void main(void){ { int v; p = &v; } h = *(void (**)(void))&p; h(); }
+abbrev pub called_dead : List (List Syntax)
+called_dead =
+    (declaration (word.Void ∷ []) (false ∷ [])
+    (no_parameters (tree kind.DeclParens (tree (kind.Star []) (named (codes "h") ∷ []) ∷ [])) ∷ [])
+    ∷ declaration (word.Int ∷ []) (false ∷ []) (tree (kind.Star []) (named (codes "p") ∷ []) ∷ [])
+    ∷ main (block (variable (codes "v")
+    ∷ effect (assign (used (codes "p")) (unary_of unary.Address (used (codes "v")))) ∷ [])
+    ∷ effect
+    (assign (used (codes "h")) (unary_of unary.Deref (tree kind.Cast (named_type (word.Void ∷ [])
+    (no_parameters (tree kind.DeclParens (tree (kind.Star []) (leaf (kind.Star []) ∷ []) ∷ [])) ∷ [])
+    ∷ unary_of unary.Address (used (codes "p")) ∷ []))))
+    ∷ effect (call (used (codes "h")) ([])) ∷ []) ∷ []) ∷ []
+
 -- int x; void main(void){ int v; x = 1; v += x; }
 abbrev pub updated_unset : List (List Syntax)
 updated_unset =
@@ -187,6 +243,11 @@ pub record RunsOfMissing : Type 0 where
   pub runs_null_substructure : run null_substructure [] 2 ≡ Some (IsUndefined [] cause.Null 0 22)
   pub runs_copied_past_the_end : run copied_past_the_end [] 2 ≡ Some (IsUndefined [] cause.Range 0 16)
   pub runs_misaligned_first : run misaligned_first [] 2 ≡ Some (IsUndefined [] cause.Misaligned 0 15)
+  pub runs_before_its_object : run before_its_object [] 2 ≡ Some (IsUndefined [] cause.Range 0 13)
+  pub runs_compared_outside : run compared_outside [] 2 ≡ Some (IsUndefined [] cause.Range 0 13)
+  pub runs_unsigned_count : run unsigned_count [] 2 ≡ Some (IsUndefined [] cause.Range 0 30)
+  pub runs_negative_index : run negative_index [] 2 ≡ Some (IsUndefined [] cause.Range 0 9)
+  pub runs_called_dead : run called_dead [] 2 ≡ Some (IsUndefined [] cause.Dead 0 31)
   pub runs_updated_unset : run updated_unset [] 2 ≡ Some (IsUndefined [] cause.Unset 0 10)
   pub runs_within_parentheses : run within_parentheses [] 2 ≡ Some (IsUndefined [] cause.Unset 0 7)
   pub runs_written_pointer : run written_pointer [] 2 ≡ Some (IsUndefined [] cause.Mixed 0 16)

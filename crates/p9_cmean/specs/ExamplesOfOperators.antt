@@ -242,6 +242,37 @@ without_values =
     (effect (call (used (codes "exits")) (number 0 ∷ [])))
     ∷ effect (call (used (codes "exits")) (text (codes "bad" ∷ []) ∷ [])) ∷ []) ∷ []) ∷ []
 
+-- char *p = "abc"; void main(void){ p[0] = 120; write(1, p, 3); if("a" == "a") exits("bad");
+-- exits(0); }
+abbrev pub texts_apart : List (List Syntax)
+texts_apart =
+    (declaration (word.Char ∷ []) (true ∷ [])
+    (tree (kind.Star []) (named (codes "p") ∷ []) ∷ text (codes "abc" ∷ []) ∷ [])
+    ∷ main (effect (assign (element (used (codes "p")) (number 0)) (number 120))
+    ∷ effect (call (used (codes "write")) (number 1 ∷ used (codes "p") ∷ number 3 ∷ []))
+    ∷ if_holds (binary operator.Eq (text (codes "a" ∷ []) ∷ text (codes "a" ∷ []) ∷ []))
+    (effect (call (used (codes "exits")) (text (codes "bad" ∷ []) ∷ [])))
+    ∷ effect (call (used (codes "exits")) (number 0 ∷ [])) ∷ []) ∷ []) ∷ []
+
+-- int x, *p; int f(void){ x = 1; return 2; } void main(void){ if(sizeof f() == 4 && sizeof *p ==
+-- 4 && sizeof(1 / 0) == 4 && x == 0) exits(0); exits("bad"); }
+abbrev pub unevaluated : List (List Syntax)
+unevaluated =
+    (declaration (word.Int ∷ []) (false ∷ false ∷ [])
+    (named (codes "x") ∷ tree (kind.Star []) (named (codes "p") ∷ []) ∷ [])
+    ∷ function (word.Int ∷ []) (no_parameters (named (codes "f"))
+    ∷ block (effect (assign (used (codes "x")) (number 1)) ∷ returns (number 2) ∷ []) ∷ [])
+    ∷ main (if_holds (binary operator.AndAnd (binary operator.AndAnd (binary operator.AndAnd
+    (binary operator.Eq (tree kind.SizeofValue (call (used (codes "f")) ([]) ∷ []) ∷ number 4 ∷ [])
+    ∷ binary operator.Eq
+    (tree kind.SizeofValue (unary_of unary.Deref (used (codes "p")) ∷ []) ∷ number 4 ∷ []) ∷ [])
+    ∷ binary operator.Eq
+    (tree kind.SizeofValue (parens (binary operator.Div (number 1 ∷ number 0 ∷ [])) ∷ [])
+    ∷ number 4 ∷ []) ∷ [])
+    ∷ binary operator.Eq (used (codes "x") ∷ number 0 ∷ []) ∷ []))
+    (effect (call (used (codes "exits")) (number 0 ∷ [])))
+    ∷ effect (call (used (codes "exits")) (text (codes "bad" ∷ []) ∷ [])) ∷ []) ∷ []) ∷ []
+
 -- struct Pair { int a; char b; } s, t; void main(void){ t = s; s = t; s = s; exits(0); }
 abbrev pub copies : List (List Syntax)
 copies =
@@ -264,5 +295,7 @@ pub record RunsOfOperators : Type 0 where
   pub runs_casts : run casts [] 3 ≡ Some (Ends [] [] [])
   pub runs_compared : run compared [] 2 ≡ Some (Ends [] [] [])
   pub runs_without_values : run without_values [] 5 ≡ Some (Ends [] [] [])
+  pub runs_texts_apart : run texts_apart [] 3 ≡ Some (Ends (codes "xbc") [] [])
+  pub runs_unevaluated : run unevaluated [] 2 ≡ Some (Ends [] [] [])
   pub runs_copies : run copies [] 2 ≡ Some (Ends [] [] [])
   pub copies_copies : bytes_copied copies [] 2 ≡ Some 24

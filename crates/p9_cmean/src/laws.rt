@@ -143,7 +143,8 @@ pub fn runs_of_flow()
 {}
 
 /// What programs come to that use a value that a call didn't give, that break several rules on accesses
-/// at once, or that call the system with pointers that it can't use.
+/// at once, that use pointers outside their objects, or that call the system with pointers that it can't
+/// use.
 #[tactic(auto, using(crate::proofs::ExamplesOfMissing::runs_of_missing))]
 pub fn runs_of_missing()
     ensures { RunsOfMissing }
