@@ -7,10 +7,12 @@ pub mod Bodies
 pub mod Fitting
 pub mod Runs
 pub mod Accesses
+pub mod Joining
 pub mod ExamplesOfExpressions
 pub mod ExamplesOfStatements
 pub mod ExamplesOfCalls
 pub mod ExamplesOfFiles
+pub mod ExamplesOfJoining
 pub mod ExamplesOfUndefined
 pub mod ExamplesOfMisuse
 pub mod ExamplesOfOperators

@@ -15,12 +15,14 @@ pub mod Union
 pub mod FirstContents
 pub mod CRun
 pub mod Joins
+pub mod JoinTests
 pub mod RunLaws
 pub mod ExampleRuns
 pub mod ExamplesOfExpressions
 pub mod ExamplesOfStatements
 pub mod ExamplesOfCalls
 pub mod ExamplesOfFiles
+pub mod ExamplesOfJoining
 pub mod ExamplesOfUndefined
 pub mod ExamplesOfMisuse
 pub mod ExamplesOfOperators

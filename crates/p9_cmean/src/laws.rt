@@ -5,12 +5,14 @@ ghost use Rattle.p9_cmean.specs.ExamplesOfExpressions.{RunsOfExpressions};
 ghost use Rattle.p9_cmean.specs.ExamplesOfStatements.{RunsOfStatements};
 ghost use Rattle.p9_cmean.specs.ExamplesOfCalls.{RunsOfCalls};
 ghost use Rattle.p9_cmean.specs.ExamplesOfFiles.{RunsOfFiles};
+ghost use Rattle.p9_cmean.specs.ExamplesOfJoining.{JoiningFiles};
 ghost use Rattle.p9_cmean.specs.ExamplesOfUndefined.{RunsOfUndefined};
 ghost use Rattle.p9_cmean.specs.ExamplesOfMisuse.{RunsOfMisuse};
 ghost use Rattle.p9_cmean.specs.ExamplesOfOperators.{RunsOfOperators};
 ghost use Rattle.p9_cmean.specs.ExamplesOfFlow.{RunsOfFlow};
 ghost use Rattle.p9_cmean.specs.ExamplesOfMissing.{RunsOfMissing};
 ghost use Rattle.p9_cmean.specs.ExamplesOfWordCounter.{RunsOfWordCounter};
+ghost use Rattle.p9_cmean.specs.JoinTests.{JoinIsTested};
 ghost use Rattle.p9_cmean.specs.RunLaws.{AccessInverts, BodiesLast, InputFalls, OutputGrows, RunsGoOn};
 
 /// Plays one after the other may be grouped in either way.
@@ -87,6 +89,12 @@ pub fn access_inverts()
     ensures { AccessInverts }
 {}
 
+/// Whether modules join is computed by a test.
+#[tactic(auto, using(crate::proofs::Joining::join_is_tested))]
+pub fn join_is_tested()
+    ensures { JoinIsTested }
+{}
+
 /// What small programs for expressions come to: the conversion to a substructure, the order from left to
 /// right, signs, narrowing, steps, unions, copies, and pointers.
 #[tactic(auto, using(crate::proofs::ExamplesOfExpressions::runs_of_expressions))]
@@ -113,6 +121,12 @@ pub fn runs_of_calls()
 #[tactic(auto, using(crate::proofs::ExamplesOfFiles::runs_of_files))]
 pub fn runs_of_files()
     ensures { RunsOfFiles }
+{}
+
+/// Which small files join: each clause of joining keeps one of them out.
+#[tactic(auto, using(crate::proofs::ExamplesOfJoining::joining_files))]
+pub fn joining_files()
+    ensures { JoiningFiles }
 {}
 
 /// Every cause of an undefined operation, with its place in the second of two files.
