@@ -20,3 +20,5 @@ pub mod ExamplesOfFlow
 pub mod ExamplesOfMissing
 pub mod ExamplesOfWordCounter
 pub mod Constants
+pub mod TypedConstants
+pub mod ExamplesOfConstants

@@ -30,3 +30,4 @@ pub mod ExamplesOfFlow
 pub mod ExamplesOfMissing
 pub mod ExamplesOfWordCounter
 pub mod ConstantLaws
+pub mod ExamplesOfConstants

@@ -1,5 +1,6 @@
 // Laws of the definitions in `specs/`. Each function does nothing; its contract is the law.
-ghost use Rattle.p9_cmean.specs.ConstantLaws.{ConstantsKeepTheirValues};
+ghost use Rattle.p9_cmean.specs.ConstantLaws.{ConstantsKeepTheirValues, TestedConstantsAreTyped};
+ghost use Rattle.p9_cmean.specs.ExamplesOfConstants.{TypedConstants};
 ghost use Rattle.p9_cmean.specs.PlayLaws.{BindIsAssociative, CallsTakeTurns, DepthIsEnough, LoopsFollow, LoopsLast, TestedLoopsFollow, TestedLoopsLast};
 ghost use Rattle.p9_cmean.specs.ExamplesOfExpressions.{RunsOfExpressions};
 ghost use Rattle.p9_cmean.specs.ExamplesOfStatements.{RunsOfStatements};
@@ -174,4 +175,16 @@ pub fn runs_of_word_counter()
 #[tactic(auto, using(crate::proofs::Constants::constants_keep_their_values))]
 pub fn constants_keep_their_values()
     ensures { ConstantsKeepTheirValues }
+{}
+
+/// A test computes that the constants of a tree are typed as that law asks.
+#[tactic(auto, using(crate::proofs::TypedConstants::tested_constants_are_typed))]
+pub fn tested_constants_are_typed()
+    ensures { TestedConstantsAreTyped }
+{}
+
+/// They are in the modules of these small files.
+#[tactic(auto, using(crate::proofs::ExamplesOfConstants::typed_constants_in))]
+pub fn typed_constants()
+    ensures { TypedConstants }
 {}
