@@ -1,7 +1,7 @@
 -- The rows are computed.
 use Rattle.std.proofs.Common.{◌≡◌, true, refl}
 use Rattle.typing_rows.specs.Words.{files_told}
-use Rattle.typing_rows.specs.Declarations.{valid, incomplete, ambiguous, undeclared, redeclared, no_lvalues, bad_operands, bad_assignments, no_functions, no_members, bad_constants, bad_returns, misplaced, RowsOfDeclarations}
+use Rattle.typing_rows.specs.Declarations.{valid, incomplete, ambiguous, undeclared, redeclared, no_lvalues, bad_operands, bad_assignments, no_functions, no_members, bad_constants, bad_returns, misplaced, too_many_items, RowsOfDeclarations}
 
 valid_is : files_told 0 valid ≡ true
 valid_is = refl
@@ -42,6 +42,9 @@ bad_returns_is = refl
 misplaced_is : files_told 26 misplaced ≡ true
 misplaced_is = refl
 
+too_many_items_is : files_told 28 too_many_items ≡ true
+too_many_items_is = refl
+
 pub rows_of_declarations : RowsOfDeclarations
 rows_of_declarations = record {
   valid_told = valid_is;
@@ -57,4 +60,5 @@ rows_of_declarations = record {
   bad_constants_told = bad_constants_is;
   bad_returns_told = bad_returns_is;
   misplaced_told = misplaced_is;
+  too_many_items_told = too_many_items_is;
 }

@@ -383,6 +383,15 @@ bad_operands =
     ∷ (function (word.Void ∷ []) (no_parameters (named (codes "g"))
     ∷ block (declaration (word.Int ∷ []) (true ∷ []) (named (codes "y")
     ∷ tree (kind.InitList false) (tree (kind.Entry by.Nothing false) (number 1 ∷ []) ∷ []) ∷ []) ∷ []) ∷ []) ∷ [])
+    -- int z = { 1 };
+    ∷ (declaration (word.Int ∷ []) (true ∷ []) (named (codes "z")
+    ∷ tree (kind.InitList false) (tree (kind.Entry by.Nothing false) (number 1 ∷ []) ∷ []) ∷ []) ∷ [])
+    -- int u[2] = 5;
+    ∷ (declaration (word.Int ∷ []) (true ∷ [])
+    (tree (kind.Brackets true true) (named (codes "u") ∷ number 2 ∷ []) ∷ number 5 ∷ []) ∷ [])
+    -- struct S w = { [0] = 1 };
+    ∷ (declaration (word.Tag false (codes "S") None ∷ []) (true ∷ []) (named (codes "w")
+    ∷ tree (kind.InitList false) (tree (kind.Entry by.Index true) (number 0 ∷ number 1 ∷ []) ∷ []) ∷ []) ∷ [])
     ∷ []
 
 abbrev pub bad_assignments : List (List Syntax)
@@ -401,6 +410,13 @@ bad_assignments =
     -- int *y = 5;
     ∷ (declaration (word.Int ∷ []) (true ∷ [])
     (tree (kind.Star []) (named (codes "y") ∷ []) ∷ number 5 ∷ []) ∷ [])
+    -- int g(void){ return p; }
+    ∷ (function (word.Int ∷ [])
+    (no_parameters (named (codes "g")) ∷ block (returns (used (codes "p")) ∷ []) ∷ []) ∷ [])
+    -- int *u[1] = { 5 };
+    ∷ (declaration (word.Int ∷ []) (true ∷ [])
+    (tree (kind.Star []) (tree (kind.Brackets true true) (named (codes "u") ∷ number 1 ∷ []) ∷ [])
+    ∷ tree (kind.InitList false) (tree (kind.Entry by.Nothing false) (number 5 ∷ []) ∷ []) ∷ []) ∷ [])
     ∷ []
 
 abbrev pub no_functions : List (List Syntax)
@@ -417,6 +433,9 @@ abbrev pub no_members : List (List Syntax)
 no_members =
     -- struct S y = { .b = 1 };
     (declaration (word.Tag false (codes "S") None ∷ []) (true ∷ []) (named (codes "y")
+    ∷ tree (kind.InitList false) (tree (kind.Entry (by.Member (codes "b")) true) (number 1 ∷ []) ∷ []) ∷ []) ∷ [])
+    -- struct S w = { .b = 1 };
+    ∷ (declaration (word.Tag false (codes "S") None ∷ []) (true ∷ []) (named (codes "w")
     ∷ tree (kind.InitList false) (tree (kind.Entry (by.Member (codes "b")) true) (number 1 ∷ []) ∷ []) ∷ []) ∷ [])
     ∷ []
 
@@ -469,6 +488,11 @@ bad_constants =
     -- int y[f(1)];
     ∷ (declaration (word.Int ∷ []) (false ∷ []) (tree (kind.Brackets true true)
     (named (codes "y") ∷ call (used (codes "f")) (number 1 ∷ []) ∷ []) ∷ []) ∷ [])
+    -- int u[2] = { [x] = 1 };
+    ∷ (declaration (word.Int ∷ []) (true ∷ [])
+    (tree (kind.Brackets true true) (named (codes "u") ∷ number 2 ∷ [])
+    ∷ tree (kind.InitList false)
+    (tree (kind.Entry by.Index true) (used (codes "x") ∷ number 1 ∷ []) ∷ []) ∷ []) ∷ [])
     ∷ []
 
 abbrev pub bad_returns : List (List Syntax)
@@ -488,6 +512,15 @@ misplaced =
     ∷ block (declaration (word.Int ∷ []) (false ∷ []) (no_parameters (named (codes "h")) ∷ []) ∷ []) ∷ []) ∷ [])
     ∷ []
 
+abbrev pub too_many_items : List (List Syntax)
+too_many_items =
+    -- int u[] = { [16777216] = 1 };
+    (declaration (word.Int ∷ []) (true ∷ [])
+    (tree (kind.Brackets true false) (named (codes "u") ∷ [])
+    ∷ tree (kind.InitList false)
+    (tree (kind.Entry by.Index true) (number 16777216 ∷ number 1 ∷ []) ∷ []) ∷ []) ∷ [])
+    ∷ []
+
 pub record RowsOfDeclarations : Type 0 where
   pub valid_told : files_told 0 valid ≡ true
   pub incomplete_told : files_told 13 incomplete ≡ true
@@ -502,3 +535,4 @@ pub record RowsOfDeclarations : Type 0 where
   pub bad_constants_told : files_told 24 bad_constants ≡ true
   pub bad_returns_told : files_told 25 bad_returns ≡ true
   pub misplaced_told : files_told 26 misplaced ≡ true
+  pub too_many_items_told : files_told 28 too_many_items ≡ true

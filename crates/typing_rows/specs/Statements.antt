@@ -258,6 +258,10 @@ no_lvalues =
     (unary_of unary.Address (parens (binary operator.Add (used (codes "x") ∷ number 1 ∷ []))))
     -- sizeof x = 1;
     ∷ effect (assign (tree kind.SizeofValue (used (codes "x") ∷ [])) (number 1))
+    -- 1++;
+    ∷ effect (tree (kind.Post false) (number 1 ∷ []))
+    -- 1 = 2;
+    ∷ effect (assign (number 1) (number 2))
     ∷ []
 
 abbrev pub bad_operands : List Syntax
@@ -366,6 +370,24 @@ bad_operands =
     ∷ effect (element (used (codes "p")) (used (codes "p")))
     -- *x;
     ∷ effect (unary_of unary.Deref (used (codes "x")))
+    -- s++;
+    ∷ effect (tree (kind.Post false) (used (codes "s") ∷ []))
+    -- *v;
+    ∷ effect (unary_of unary.Deref (used (codes "v")))
+    -- -p;
+    ∷ effect (unary_of unary.Minus (used (codes "p")))
+    -- p * 2;
+    ∷ effect (binary operator.Mul (used (codes "p") ∷ number 2 ∷ []))
+    -- p << 1;
+    ∷ effect (binary operator.Shl (used (codes "p") ∷ number 1 ∷ []))
+    -- 1 - p;
+    ∷ effect (binary operator.Sub (number 1 ∷ used (codes "p") ∷ []))
+    -- p == 1;
+    ∷ effect (binary operator.Eq (used (codes "p") ∷ number 1 ∷ []))
+    -- 1 ? p : 1;
+    ∷ effect (tree kind.Choose (number 1 ∷ used (codes "p") ∷ number 1 ∷ []))
+    -- p *= 2;
+    ∷ effect (tree (kind.Assign (Some operator.Mul)) (used (codes "p") ∷ number 2 ∷ []))
     ∷ []
 
 abbrev pub bad_assignments : List Syntax
@@ -409,6 +431,8 @@ bad_assignments =
     -- p = (char*)0;
     ∷ effect (assign (used (codes "p"))
     (tree kind.Cast (named_type (word.Char ∷ []) (leaf (kind.Star []) ∷ []) ∷ number 0 ∷ [])))
+    -- p = 5;
+    ∷ effect (assign (used (codes "p")) (number 5))
     ∷ []
 
 abbrev pub no_functions : List Syntax
@@ -466,6 +490,8 @@ no_scalars =
     ∷ tree (kind.For false true false) (used (codes "s") ∷ leaf kind.Expression ∷ [])
     -- s ? 1 : 2;
     ∷ effect (tree kind.Choose (used (codes "s") ∷ number 1 ∷ number 2 ∷ []))
+    -- while(s);
+    ∷ tree kind.While (used (codes "s") ∷ leaf kind.Expression ∷ [])
     ∷ []
 
 abbrev pub bad_constants : List Syntax
@@ -508,6 +534,16 @@ misplaced =
     ∷ leaf kind.Expression ∷ [])
     -- switch(1){ default: default: ; }
     ∷ tree kind.Switch (number 1 ∷ leaf kind.Default ∷ leaf kind.Default ∷ leaf kind.Expression ∷ [])
+    -- switch(x){ case 1: case 1: ; }
+    ∷ tree kind.Switch (used (codes "x")
+    ∷ tree kind.Case (number 1 ∷ [])
+    ∷ tree kind.Case (number 1 ∷ [])
+    ∷ leaf kind.Expression ∷ [])
+    -- switch(x){ default: default: ; }
+    ∷ tree kind.Switch
+    (used (codes "x") ∷ leaf kind.Default ∷ leaf kind.Default ∷ leaf kind.Expression ∷ [])
+    -- switch(x){ default: continue; }
+    ∷ tree kind.Switch (used (codes "x") ∷ leaf kind.Default ∷ leaf kind.Continue ∷ [])
     ∷ []
 
 pub record RowsOfStatements : Type 0 where
