@@ -1,4 +1,4 @@
-//! Tests of which modules are valid, and of how valid modules join.
+//! Tests of what forms weigh, of which modules are valid, and of how valid modules join.
 #![tactic(auto)]
 
 #[cfg(test)]
@@ -7,3 +7,5 @@ mod samples;
 mod tests;
 #[cfg(test)]
 mod validity;
+#[cfg(test)]
+mod weights;

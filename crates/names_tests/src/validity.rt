@@ -100,3 +100,19 @@ fn symbols(rt: HostRuntime) -> Result<(), Fail> {
     }
     Ok(())
 }
+
+// Each operand by itself may stand in some form.
+#[test]
+fn wrong_forms(rt: HostRuntime) -> Result<(), Fail> {
+    let rows = [
+        (Op::MovW, [Operand::MemFP(0), Operand::MemFP(4)]),
+        (Op::MovBU, [REGISTER, Operand::MemFP(0)]),
+        (Op::Mul, [Operand::Const(3), REGISTER]),
+        (Op::Jal, [REGISTER, REGISTER]),
+    ];
+    for (op, operands) in rows {
+        let may = may_stand(rt.alloc(), op, &operands)?;
+        assert!(rt; !may);
+    }
+    Ok(())
+}

@@ -1,12 +1,12 @@
 -- The law of constant expressions: the meaning gives them the value that typing does.
-use Rattle.std.specs.Prelude.{◌≡◌, ℕ, true}
+use Rattle.std.specs.Prelude.{◌≡◌, ℕ, Bool, true, false, ◌&&◌}
 use Rattle.p9_lang.specs.declared.tree.Kind.{Kind}
 use Rattle.p9_lang.specs.declared.tree.Kind.TheVariants as kind
-use Rattle.p9_lang.specs.Types.{Tags}
+use Rattle.p9_lang.specs.Types.{TypeTree, Tags}
 use Rattle.p9_lang.specs.Trees.{node, none, more}
 use Rattle.p9_lang.specs.Modules.{Typed, TypedRow}
 use Rattle.p9_lang.specs.Conversions.{is_integer}
-use Rattle.p9_lang.specs.Constants.{Value, type_at, constant_of}
+use Rattle.p9_lang.specs.Constants.{Constant, NotConstant, Undefined, Value, Null, type_at, constant_of}
 use Rattle.p9_cmean.specs.Cells.{Word, State}
 use Rattle.p9_cmean.specs.Plays.{Done}
 use Rattle.p9_cmean.specs.Expressions.{Surroundings, value}
@@ -36,3 +36,33 @@ abbrev pub ConstantsKeepTheirValues : Type 0
 ConstantsKeepTheirValues =
     (around : Surroundings) (e : Typed) (word : ℕ) (s : State)
     → ConstantsAreTyped around.tags e → constant_of around.tags e ≡ Value word → value around e s ≡ Done (Word word) s
+
+-- That a module's constants are so is computed by a test.
+
+abbrev pub is_typed_constant : Constant → TypeTree → Bool
+is_typed_constant (Value word) type = is_integer type
+is_typed_constant NotConstant type = true
+is_typed_constant Undefined type = true
+is_typed_constant Null type = true
+
+abbrev pub has_no_parts : TypedRow → Bool
+has_no_parts none = true
+has_no_parts (more first others) = false
+
+abbrev pub leaf_is_alone : Kind → TypedRow → Bool
+leaf_is_alone (kind.Number n unsigned long) parts = has_no_parts parts
+leaf_is_alone (kind.Character n) parts = has_no_parts parts
+leaf_is_alone (kind.Name x) parts = has_no_parts parts
+leaf_is_alone k parts = true
+
+abbrev mutual
+  pub constants_are_typed : Tags → Typed → Bool
+  constants_are_typed tags (node k label parts) =
+      is_typed_constant (constant_of tags (node k label parts)) label.type && (leaf_is_alone k parts && all_constants_are_typed tags parts)
+
+  pub all_constants_are_typed : Tags → TypedRow → Bool
+  all_constants_are_typed tags none = true
+  all_constants_are_typed tags (more first others) = constants_are_typed tags first && all_constants_are_typed tags others
+
+abbrev pub TestedConstantsAreTyped : Type 0
+TestedConstantsAreTyped = (tags : Tags) (e : Typed) → constants_are_typed tags e ≡ true → ConstantsAreTyped tags e

@@ -14,8 +14,9 @@ use Rattle.p9_lang.specs.Files.{module_of}
 use Rattle.p9_lang.specs.Symbols.{Symbol, symbols}
 use Rattle.p9_cmean.specs.declared.Cause.{Cause}
 use Rattle.p9_cmean.specs.Cells.{FunctionName}
-use Rattle.p9_cmean.specs.Turns.{Outcome, Ended, Out, Undefined, Deep, NoOutcome}
-use Rattle.p9_cmean.specs.CRun.{source_run}
+use Rattle.p9_cmean.specs.Turns.{Outcome, Ended, Out, Undefined, Deep, NoOutcome, copied_of}
+use Rattle.p9_cmean.specs.Union.{union_of}
+use Rattle.p9_cmean.specs.CRun.{source_run, run_of}
 
 -- PARTS OF PROGRAMS
 
@@ -89,6 +90,10 @@ seen (NoOutcome place s) = IsNone
 -- what is seen of the run of files
 unfoldable pub run : List (List Syntax) → (input : List ℕ) → (turns : ℕ) → Option Seen
 run files input turns = on_some (modules_of files) (λ modules. Some (seen (source_run modules input turns)))
+
+-- how many bytes the run's structure copies move
+unfoldable pub bytes_copied : List (List Syntax) → (input : List ℕ) → (turns : ℕ) → Option ℕ
+bytes_copied files input turns = on_some (modules_of files) (λ modules. Some (copied_of (run_of (union_of modules) input turns)))
 
 -- whether two files agree on the type of a name
 abbrev pub symbol_in : List ℕ → List Symbol → Option Symbol

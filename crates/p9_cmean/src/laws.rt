@@ -1,12 +1,19 @@
 // Laws of the definitions in `specs/`. Each function does nothing; its contract is the law.
-ghost use Rattle.p9_cmean.specs.ConstantLaws.{ConstantsKeepTheirValues};
+ghost use Rattle.p9_cmean.specs.ConstantLaws.{ConstantsKeepTheirValues, TestedConstantsAreTyped};
+ghost use Rattle.p9_cmean.specs.ExamplesOfConstants.{TypedConstants};
 ghost use Rattle.p9_cmean.specs.PlayLaws.{BindIsAssociative, CallsTakeTurns, DepthIsEnough, LoopsFollow, LoopsLast, TestedLoopsFollow, TestedLoopsLast};
 ghost use Rattle.p9_cmean.specs.ExamplesOfExpressions.{RunsOfExpressions};
 ghost use Rattle.p9_cmean.specs.ExamplesOfStatements.{RunsOfStatements};
 ghost use Rattle.p9_cmean.specs.ExamplesOfCalls.{RunsOfCalls};
 ghost use Rattle.p9_cmean.specs.ExamplesOfFiles.{RunsOfFiles};
+ghost use Rattle.p9_cmean.specs.ExamplesOfJoining.{JoiningFiles};
 ghost use Rattle.p9_cmean.specs.ExamplesOfUndefined.{RunsOfUndefined};
+ghost use Rattle.p9_cmean.specs.ExamplesOfMisuse.{RunsOfMisuse};
+ghost use Rattle.p9_cmean.specs.ExamplesOfOperators.{RunsOfOperators};
+ghost use Rattle.p9_cmean.specs.ExamplesOfFlow.{RunsOfFlow};
+ghost use Rattle.p9_cmean.specs.ExamplesOfMissing.{RunsOfMissing};
 ghost use Rattle.p9_cmean.specs.ExamplesOfWordCounter.{RunsOfWordCounter};
+ghost use Rattle.p9_cmean.specs.JoinTests.{JoinIsTested};
 ghost use Rattle.p9_cmean.specs.RunLaws.{AccessInverts, BodiesLast, InputFalls, OutputGrows, RunsGoOn};
 
 /// Plays one after the other may be grouped in either way.
@@ -83,6 +90,12 @@ pub fn access_inverts()
     ensures { AccessInverts }
 {}
 
+/// Whether modules join is computed by a test.
+#[tactic(auto, using(crate::proofs::Joining::join_is_tested))]
+pub fn join_is_tested()
+    ensures { JoinIsTested }
+{}
+
 /// What small programs for expressions come to: the conversion to a substructure, the order from left to
 /// right, signs, narrowing, steps, unions, copies, and pointers.
 #[tactic(auto, using(crate::proofs::ExamplesOfExpressions::runs_of_expressions))]
@@ -111,10 +124,45 @@ pub fn runs_of_files()
     ensures { RunsOfFiles }
 {}
 
+/// Which small files join: each clause of joining keeps one of them out.
+#[tactic(auto, using(crate::proofs::ExamplesOfJoining::joining_files))]
+pub fn joining_files()
+    ensures { JoiningFiles }
+{}
+
 /// Every cause of an undefined operation, with its place in the second of two files.
 #[tactic(auto, using(crate::proofs::ExamplesOfUndefined::runs_of_undefined))]
 pub fn runs_of_undefined()
     ensures { RunsOfUndefined }
+{}
+
+/// What programs of one file come to that use the same declared objects and functions in ways that are
+/// undefined.
+#[tactic(auto, using(crate::proofs::ExamplesOfMisuse::runs_of_misuse))]
+pub fn runs_of_misuse()
+    ensures { RunsOfMisuse }
+{}
+
+/// What small programs for operators, constants, casts, updates and the order of operands come to, and how
+/// many bytes structure copies move.
+#[tactic(auto, using(crate::proofs::ExamplesOfOperators::runs_of_operators))]
+pub fn runs_of_operators()
+    ensures { RunsOfOperators }
+{}
+
+/// What small programs for every form of `if`, `for` and `switch` come to, how many turns they take, and
+/// what dies by `break` and `return`.
+#[tactic(auto, using(crate::proofs::ExamplesOfFlow::runs_of_flow))]
+pub fn runs_of_flow()
+    ensures { RunsOfFlow }
+{}
+
+/// What programs come to that use a value that a call didn't give, that break several rules on accesses
+/// at once, that use pointers outside their objects, or that call the system with pointers that it can't
+/// use.
+#[tactic(auto, using(crate::proofs::ExamplesOfMissing::runs_of_missing))]
+pub fn runs_of_missing()
+    ensures { RunsOfMissing }
 {}
 
 /// Two parts of a program that counts words.
@@ -127,4 +175,16 @@ pub fn runs_of_word_counter()
 #[tactic(auto, using(crate::proofs::Constants::constants_keep_their_values))]
 pub fn constants_keep_their_values()
     ensures { ConstantsKeepTheirValues }
+{}
+
+/// A test computes that the constants of a tree are typed as that law asks.
+#[tactic(auto, using(crate::proofs::TypedConstants::tested_constants_are_typed))]
+pub fn tested_constants_are_typed()
+    ensures { TestedConstantsAreTyped }
+{}
+
+/// They are in the modules of these small files.
+#[tactic(auto, using(crate::proofs::ExamplesOfConstants::typed_constants_in))]
+pub fn typed_constants()
+    ensures { TypedConstants }
 {}

@@ -5,10 +5,11 @@ mod laws;
 
 pub use laws::{
     access_inverts, bind_is_associative, bodies_last, calls_take_turns,
-    constants_keep_their_values, depth_is_enough, input_falls, loops_follow, loops_last,
-    output_grows, runs_go_on, runs_of_calls, runs_of_expressions, runs_of_files,
-    runs_of_statements, runs_of_undefined, runs_of_word_counter, tested_loops_follow,
-    tested_loops_last,
+    constants_keep_their_values, depth_is_enough, input_falls, join_is_tested, joining_files,
+    loops_follow, loops_last, output_grows, runs_go_on, runs_of_calls, runs_of_expressions,
+    runs_of_files, runs_of_flow, runs_of_missing, runs_of_misuse, runs_of_operators,
+    runs_of_statements, runs_of_undefined, runs_of_word_counter, tested_constants_are_typed,
+    tested_loops_follow, tested_loops_last, typed_constants,
 };
 
 /// An operation that C leaves undefined.

@@ -7,3 +7,4 @@ pub mod Charges
 pub mod TRun
 pub mod Contents
 pub mod Means
+pub mod Examples

@@ -1,6 +1,7 @@
 // Laws of the definitions in `specs/`. Each function does nothing; its contract is the law.
 ghost use Rattle.p9_tree.specs.Same.{BindKeepsSame, LoopsKeepSame, SameCallsEndSame, TestedLoopsKeepSame};
 ghost use Rattle.p9_tree.specs.Means.{RunsMeanSame};
+ghost use Rattle.p9_tree.specs.Examples.{ContentsOfTrees, RunsOfTrees, SizesOfTrees};
 
 /// Plays that mean the same do so one after the other.
 #[tactic(auto, using(crate::proofs::Same::bind_keeps_same))]
@@ -32,4 +33,24 @@ pub fn same_calls_end_same()
 #[tactic(auto, using(crate::proofs::Runs::runs_mean_same))]
 pub fn runs_mean_same()
     ensures { RunsMeanSame }
+{}
+
+/// What small programs come to by their typed trees: the same as by their sources, which the meaning's
+/// examples tell.
+#[tactic(auto, using(crate::proofs::Examples::runs_of_trees))]
+pub fn runs_of_trees()
+    ensures { RunsOfTrees }
+{}
+
+/// How many nodes the functions of these programs count, what they are charged, and how many registers
+/// trees want.
+#[tactic(auto, using(crate::proofs::Examples::sizes_of_trees))]
+pub fn sizes_of_trees()
+    ensures { SizesOfTrees }
+{}
+
+/// What entries of initialisers write, or the first of them that breaks a rule.
+#[tactic(auto, using(crate::proofs::Examples::contents_of_trees))]
+pub fn contents_of_trees()
+    ensures { ContentsOfTrees }
 {}

@@ -1,0 +1,2 @@
+pub mod RowsStatements
+pub mod RowsDeclarations
