@@ -1,0 +1,5 @@
+mod Shapes
+mod Composing
+mod Names
+mod Deeper
+mod Ending

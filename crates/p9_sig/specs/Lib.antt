@@ -1,0 +1,5 @@
+pub mod Parts
+pub mod Texts
+pub mod TypesInRange
+pub mod Writing
+pub mod Laws
