@@ -3,3 +3,12 @@ mod Composing
 mod Names
 mod Deeper
 mod Ending
+mod Same
+mod Numbers
+mod Reading
+mod Coupling
+mod Coupled
+mod CoupledTags
+mod Reaching
+mod Telling
+mod Steps
