@@ -12,3 +12,5 @@ mod CoupledTags
 mod Reaching
 mod Telling
 mod Steps
+mod Examples
+mod TestTypes

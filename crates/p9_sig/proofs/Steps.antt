@@ -1,7 +1,8 @@
 -- What the writer's functions leave to be written, over what their calls leave.
-use Rattle.std.proofs.Common.{◌≡◌, ◌<◌, ◌≤◌, ◌⊎◌, inl, inr, ◌==◌, ◌&&◌, ◌||◌, append-nil, ℕ, zero, suc, ◌+◌, Bool, true, false, not, if◌then◌else◌, List, [], ◌∷◌, ◌++◌, length, length-append, slice_get, Option, Some, None, Result, Ok, Err, IsSome, is_some, OnOk, IsSomeAnd, codes, refl, sym, ap, ◌∙◌, subst, arith, bytes_eq}
+use Rattle.std.proofs.Common.{◌≡◌, ◌<◌, ◌≤◌, ◌⊎◌, inl, inr, ◌==◌, ◌&&◌, ◌||◌, append-nil, get_or, take, drop, ◌-◌, ℕ, zero, suc, ◌+◌, Bool, true, false, not, if◌then◌else◌, List, [], ◌∷◌, ◌++◌, length, length-append, slice_get, Option, Some, None, Result, Ok, Err, IsSome, is_some, OnOk, IsSomeAnd, codes, refl, sym, ap, ◌∙◌, subst, arith, bytes_eq}
 use Rattle.std.specs.List.{list_any}
 use Rattle.std.proofs.lemmas.Bool.{cases_lt, true≢false}
+use Rattle.std.proofs.lemmas.List.{take_all}
 use Rattle.p9_lang.specs.declared.types.CType.{CType}
 use Rattle.p9_lang.specs.declared.types.Member.{Member}
 use Rattle.p9_lang.specs.declared.types.Tag.{Tag}
@@ -49,11 +50,11 @@ members_step f g h i j tag ms m others u name e n p q k l =
     ∙ ap f (sym (member_grouped (writes m.name) (writes (codes ":")) (type_text tag (type_of m.ty)) (writes (codes ";")) (members_text tag (members_of others)) (writes (closing u))))
     ∙ ap (λ ns. f (rest_of_body tag ns u)) (sym e)
 
-pub body_step : (f g h i j : Final) (tag : ℕ → Part) (body : Option (List MemberTree)) (ms : List Member) (u : Bool) (x open name : List ℕ)
-    → Some (members_of ms) ≡ body → open ≡ opening u → name ≡ x
-    → Puts open f g → Puts name g h → Puts (codes ":") h i → j (writes []) ≡ i (rest_of_body tag ms u)
+pub body_step : (f g h i j : Final) (tag : ℕ → Part) (body : Option (List MemberTree)) (ms : List Member) (u : Bool) (x start name : List ℕ)
+    → Some (members_of ms) ≡ body → start ≡ opening u → name ≡ x
+    → Puts start f g → Puts name g h → Puts (codes ":") h i → j (writes []) ≡ i (rest_of_body tag ms u)
     → j (writes []) ≡ f (body_text tag u x body)
-body_step f g h i j tag body ms u x open name e o n p q r k =
+body_step f g h i j tag body ms u x start name e o n p q r k =
     k ∙ r (rest_of_body tag ms u) ∙ q (writes (codes ":") ⨟ rest_of_body tag ms u) ∙ p (writes name ⨟ writes (codes ":") ⨟ rest_of_body tag ms u)
     ∙ ap (λ l. f (writes l ⨟ writes name ⨟ writes (codes ":") ⨟ rest_of_body tag ms u)) o
     ∙ ap (λ l. f (writes (opening u) ⨟ writes l ⨟ writes (codes ":") ⨟ rest_of_body tag ms u)) n
@@ -61,9 +62,10 @@ body_step f g h i j tag body ms u x open name e o n p q r k =
 
 -- TYPES
 
-pub letter_step : {X E : Type 0} (r : Result X E) (f g : Final) (xs : List ℕ) (a : Part) → a ≡ writes xs → OnOk r (Puts xs f g) → OnOk r (Keeps (f a) (g (writes [])))
-letter_step (Ok x) f g xs a e p text h = p (writes []) ∙ ap f (nothing_last (writes xs) ∙ sym e) ∙ h
-letter_step (Err x) f g xs a e p = tt
+pub letter_step : {X E : Type 0} (r : Result X E) (f g : (ℕ → Part) → Final) (tag : ℕ → Part) (xs : List ℕ) (a : Part) → a ≡ writes xs
+    → OnOk r ((tag : ℕ → Part) → Puts xs (f tag) (g tag)) → OnOk r (Keeps (f tag a) (g tag (writes [])))
+letter_step (Ok x) f g tag xs a e p = λ text h. p tag (writes []) ∙ ap (f tag) (nothing_last (writes xs) ∙ sym e) ∙ h
+letter_step (Err x) f g tag xs a e p = tt
 
 pub pointer_step : (f g h : Final) (T a : Part) → a ≡ writes (codes "*") ⨟ T → Puts (codes "*") f g → KeepsFor T g h → Keeps (f a) (h (writes []))
 pointer_step f g h T a e p k text q =
@@ -76,6 +78,9 @@ array_step f g h i j n T a e p q r k text z =
 
 pub front_step : (f g h : Final) (xs : List ℕ) (T a : Part) → a ≡ writes xs ⨟ T → Puts xs f g → h (writes []) ≡ g T → Keeps (f a) (h (writes []))
 front_step f g h xs T a e p k text z = k ∙ p T ∙ ap f (sym e) ∙ z
+
+pub both_same : {X Y Z : Type 0} (f : X → Y → Z) (a a' : X) (b b' : Y) → a ≡ a' → b ≡ b' → f a b ≡ f a' b'
+both_same f a a' b b' e k = ap (λ x. f x b) e ∙ ap (f a') k
 
 -- STRUCTURES BY THEIR NUMBERS
 
@@ -95,13 +100,12 @@ tag_get [] (suc i) t e = cc
 tag_get (s ∷ ts) zero t e = let same : s ≡ t = cc in ap (λ q. Some (tag_of q)) same
 tag_get (s ∷ ts) (suc i) t e = tag_get ts i t e
 
-pub tag_step : {X E : Type 0} (r : Result X E) (ts : List Tag) (i : ℕ) (t : Tag) (text : List ℕ) (tasks : List Task) (met : List (List ℕ)) (g : (ℕ → Part) → Final) (a : Part)
+pub tag_step : (ts : List Tag) (i : ℕ) (t : Tag) (text : List ℕ) (tasks : List Task) (met : List (List ℕ)) (g : Final) (a : Part)
     → a ≡ tag_part (tags_of ts) i → slice_get ts i ≡ Some t
-    → OnOk r ((part : ℕ → Part) → g part (writes []) ≡ final_text part text tasks met (tag_text_by part (Some (tag_of t))))
-    → OnOk r (Keeps (final_text (tag_part (tags_of ts)) text tasks met a) (g (tag_part (tags_of ts)) (writes [])))
-tag_step (Err x) ts i t text tasks met g a e f k = tt
-tag_step (Ok x) ts i t text tasks met g a e f k whole h =
-    k (tag_part (tags_of ts))
+    → g (writes []) ≡ final_text (tag_part (tags_of ts)) text tasks met (tag_text_by (tag_part (tags_of ts)) (Some (tag_of t)))
+    → Keeps (final_text (tag_part (tags_of ts)) text tasks met a) (g (writes []))
+tag_step ts i t text tasks met g a e f k whole h =
+    k
     ∙ ap (λ o. final_text (tag_part (tags_of ts)) text tasks met (tag_text_by (tag_part (tags_of ts)) o)) (sym (tag_get ts i t f))
     ∙ final_under (tag_part (tags_of ts)) text tasks met (tag_part (tags_of ts) i) (tag_text_by (tag_part (tags_of ts)) (slice_get (tags_of ts) i))
         (λ m w q. deeper (deepest (tags_of ts)) (tags_of ts) i m w q) whole
@@ -145,15 +149,55 @@ pub among_bytes : (ks : List (List ℕ)) (x : List ℕ) → list_any (bytes_eq x
 among_bytes [] x = refl
 among_bytes (k ∷ ks) x = ap (λ q. q || list_any (bytes_eq x) ks) (same_as_bytes x k) ∙ ap (λ q. same_name x k || q) (among_bytes ks x)
 
+pub nameless_step : (F : Final) (x : List ℕ) (a : Part) → length x ≡ 0 → F a ≡ F (once x a)
+nameless_step F [] a e = refl
+nameless_step F (c ∷ cs) a e = absurd (omega arith)
+
+pub first_step : (part : ℕ → Part) (text : List ℕ) (tasks : List Task) (met later : List (List ℕ)) (x : List ℕ) (a : Part) → (length x ≡ 0 → ⊥)
+    → is_among met x ≡ false → later ≡ met ++ x ∷ [] → final_text part text tasks later a ≡ final_text part text tasks met (once x a)
+unfolding final_text
+first_step part text tasks met later [] a n e f = absurd (n refl)
+first_step part text tasks met later (c ∷ cs) a n e f =
+    ap (λ m. text_in (behind text (continued (a m) (tasks_text part tasks)))) f
+    ∙ ap (λ q. text_in (behind text (continued (if q then (writes (codes "@") ⨟ writes (c ∷ cs) ⨟ writes (codes ";")) met else a (met ++ (c ∷ cs) ∷ [])) (tasks_text part tasks)))) (sym e)
+
+pub again_step : (part : ℕ → Part) (text : List ℕ) (tasks : List Task) (met : List (List ℕ)) (x : List ℕ) (a : Part) → (length x ≡ 0 → ⊥)
+    → is_among met x ≡ true → final_text part text tasks met (writes (codes "@") ⨟ writes x ⨟ writes (codes ";")) ≡ final_text part text tasks met (once x a)
+unfolding final_text
+again_step part text tasks met [] a n e = absurd (n refl)
+again_step part text tasks met (c ∷ cs) a n e =
+    ap (λ q. text_in (behind text (continued (if q then (writes (codes "@") ⨟ writes (c ∷ cs) ⨟ writes (codes ";")) met else a (met ++ (c ∷ cs) ∷ [])) (tasks_text part tasks)))) (sym e)
+
+-- the first of a list, and the others
+pub first_and_others : {X : Type 0} (xs : List X) (x : X) → 1 ≤ length xs → x ≡ get_or xs 0 x → xs ≡ x ∷ take (length xs - 1) (drop 1 xs)
+first_and_others [] x le e = absurd (omega arith)
+first_and_others (y ∷ ys) x le e = ap (λ z. z ∷ ys) (sym e) ∙ ap (λ l. x ∷ l) (sym (take_all (length (y ∷ ys) - 1) ys (omega arith)))
+
 -- THE LOOP
 
-pub first_state : (tag : ℕ → Part) (T : Part) → final_text tag [] [] [] (writes [] ⨟ T) ≡ text_in (T [])
+pub first_state : (tag : ℕ → Part) (text : List ℕ) (tasks : List Task) (met : List (List ℕ)) (T : Part) → text ≡ [] → tasks ≡ [] → met ≡ []
+    → final_text tag text tasks met (writes [] ⨟ T) ≡ text_in (T [])
 unfolding final_text
-first_state tag T = ap (λ (a : Part). text_in (behind [] ((a ⨟ writes []) []))) (nothing_first T) ∙ ap (λ (a : Part). text_in (behind [] (a []))) (nothing_last T) ∙ by (T [])
+first_state tag text tasks met T e f g =
+    ap (λ t. text_in (behind t (((writes [] ⨟ T) ⨟ tasks_text tag tasks) met))) e
+    ∙ ap (λ ks. text_in (behind [] (((writes [] ⨟ T) ⨟ tasks_text tag ks) met))) f
+    ∙ ap (λ m. text_in (behind [] (((writes [] ⨟ T) ⨟ writes []) m))) g
+    ∙ ap (λ (a : Part). text_in (behind [] ((a ⨟ writes []) []))) (nothing_first T) ∙ ap (λ (a : Part). text_in (behind [] (a []))) (nothing_last T) ∙ by (T [])
   where
     by : (o : Option Written) → text_in (behind [] o) ≡ text_in o
     by None = refl
     by (Some w) = refl
+
+pub kept_is : (before after whole : Option (List ℕ)) → IsSome whole → before ≡ whole → Keeps before after → after ≡ whole
+kept_is before after None h e k = absurd (true≢false (sym h))
+kept_is before after (Some text) h e k = k text e
+
+pub some_as : (o p : Option (List ℕ)) → IsSome p → o ≡ p → IsSome o
+some_as o p h e = ap is_some e ∙ h
+
+pub empty_by_length : {X : Type 0} (xs : List X) → length xs ≡ 0 → xs ≡ []
+empty_by_length [] e = refl
+empty_by_length (x ∷ xs) e = absurd (omega arith)
 
 -- a task that is taken is written next
 pub taken : (tag : ℕ → Part) (text : List ℕ) (tasks rest : List Task) (k : Task) (met : List (List ℕ)) → tasks ≡ rest ++ k ∷ []

@@ -3,3 +3,4 @@ pub mod Texts
 pub mod TypesInRange
 pub mod Writing
 pub mod Laws
+pub mod Examples

@@ -9,5 +9,5 @@ mod tests;
 mod writer;
 
 pub use fault::SigFault;
-pub use laws::{texts_tell_types, types_have_texts};
+pub use laws::{text_examples, texts_tell_types, types_have_texts};
 pub use writer::signature;

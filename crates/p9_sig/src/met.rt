@@ -37,7 +37,7 @@ impl MetTags {
         ensures met { IfOk result (λ first. self.new ≡ (if first then self.old ++ name.now ∷ [] else self.old)) }
     {
         let name = Name {
-            list: name.list.to_vec(alloc)?,
+            list: Vec::from_slice(alloc, name.list.as_slice())?,
         };
         let first = self.names.insert(name)?;
         Ok(first)

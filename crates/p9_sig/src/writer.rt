@@ -1,5 +1,5 @@
 // The text of a type, written from a list of tasks.
-ghost use Rattle.std.specs.Prelude.{◌≡◌, ◌+◌, ◌≤◌, ◌<◌, [], ℕ, Some, Err, IsSome, OnOk, IfOk, IsSomeAnd, length, codes};
+ghost use Rattle.std.specs.Prelude.{◌≡◌, ◌==◌, ◌+◌, ◌≤◌, ◌<◌, [], ℕ, Some, Err, IsSome, OnOk, IfOk, IsSomeAnd, length, codes};
 ghost use Rattle.std.specs.Option.{option_copied};
 ghost use Rattle.p9_lang.specs.Types.{type_of, body_of, tag_of, tags_of};
 ghost use Rattle.p9_lang.specs.TagRules.{AreValid};
@@ -43,6 +43,14 @@ impl<'a> Writer<'a> {
         ensures grows { OnOk result (length self.new.text.items ≡ length self.old.text.items + length text.now) }
     {
         self.text.extend_from_slice(text)?;
+        Ok(())
+    }
+
+    fn put_name(&mut self, name: &Ident) -> Result<(), NoMemory>
+        ensures then { OnOk result ((tag : ℕ → Part) (now : Part) → final tag self.new now ≡ final tag self.old (writes name.now ⨟ now)) }
+        ensures grows { OnOk result (length self.old.text.items ≤ length self.new.text.items) }
+    {
+        self.put(name.list.as_slice())?;
         Ok(())
     }
 
@@ -94,7 +102,7 @@ impl<'a> Writer<'a> {
                 Ok(())
             }
             [member, others @ ..] => {
-                self.put(member.name.list.as_slice())?;
+                self.put_name(&member.name)?;
                 self.put(b":")?;
                 self.keep(Task::Members(others, is_union))?;
                 self.keep(Task::Type(&member.ty))?;
@@ -112,13 +120,13 @@ impl<'a> Writer<'a> {
             None => {
                 self.put(b"?")?;
                 self.put(opening(tag.is_union))?;
-                self.put(tag.name.list.as_slice())?;
+                self.put_name(&tag.name)?;
                 self.put(closing(tag.is_union))?;
                 Ok(())
             }
             Some(members) => {
                 self.put(opening(tag.is_union))?;
-                self.put(tag.name.list.as_slice())?;
+                self.put_name(&tag.name)?;
                 self.put(b":")?;
                 self.write_members(members, tag.is_union)?;
                 Ok(())
@@ -132,7 +140,7 @@ impl<'a> Writer<'a> {
         ensures grows { OnOk result (length self.old.text.items < length self.new.text.items) }
     {
         self.put(b"@")?;
-        self.put(name.list.as_slice())?;
+        self.put_name(name)?;
         self.put(b";")?;
         Ok(())
     }
@@ -141,7 +149,12 @@ impl<'a> Writer<'a> {
         ensures then { OnOk result ((part : ℕ → Part) → final part self.new (writes []) ≡ final part self.old (tag_text_by part (Some (tag_of tag.now)))) }
         ensures grows { OnOk result (length self.old.text.items < length self.new.text.items) }
     {
-        if tag.name.list.is_empty() || self.met.meet(alloc, &tag.name)? {
+        if is_nameless(tag) {
+            self.write_body(tag)?;
+            return Ok(());
+        }
+        let first = self.met.meet(alloc, &tag.name)?;
+        if first {
             self.write_body(tag)?;
             Ok(())
         } else {
@@ -182,7 +195,11 @@ impl<'a> Writer<'a> {
                 self.write_parameters(parameters.as_slice(), result_type.get())?;
                 Ok(())
             }
-            CType::Tagged(number) => self.write_tag(alloc, &tags[*number as usize]),
+            CType::Tagged(number) => {
+                let tag = &tags[*number as usize];
+                self.write_tag(alloc, tag)?;
+                Ok(())
+            }
         }
     }
 
@@ -192,7 +209,10 @@ impl<'a> Writer<'a> {
         ensures grows { OnOk result (length self.old.text.items < length self.new.text.items) }
     {
         match task {
-            Task::Type(ty) => self.write_type(alloc, ty, tags),
+            Task::Type(ty) => {
+                self.write_type(alloc, ty, tags)?;
+                Ok(())
+            }
             Task::Parameters(others, result_type) => {
                 self.put(b";")?;
                 self.write_parameters(others, result_type)?;
@@ -205,6 +225,12 @@ impl<'a> Writer<'a> {
             }
         }
     }
+}
+
+fn is_nameless(tag: &Tag) -> bool
+    ensures { result ≡ (length tag.now.name == 0) }
+{
+    tag.name.list.is_empty()
 }
 
 // The members of a structure or union, where they count: it has a body and isn't marked.

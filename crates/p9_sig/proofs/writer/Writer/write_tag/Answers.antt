@@ -1,9 +1,26 @@
-use Rattle.p9_sig.proofs.writer.Writer.write_tag.Goals.{then-is_empty, else-is_empty+in_ok-meet}
+use Rattle.std.proofs.Common.{[], ◌∷◌, ◌++◌, not, length, if◌then◌else◌, codes, sym, ap, ◌∙◌}
+use Rattle.std.proofs.lemmas.Bool.{eqb-false, not-true, not-false}
+use Rattle.p9_lang.specs.Types.{tag_of}
+use Rattle.p9_lang.specs.Agreement.{open_body}
+use Rattle.p9_sig.specs.Parts.{writes, ◌⨟◌}
+use Rattle.p9_sig.specs.Texts.{body_text}
+use Rattle.p9_sig.specs.Writing.{final, final_text}
+use Rattle.p9_sig.proofs.Steps.{first_step, again_step}
 use Rattle.p9_sig.proofs.writer.Writer.write_tag.Goals as goal
 
-pub returns-in_ok-write_body-clause-then : goal.returns-in_ok-write_body-clause-then
-returns-in_ok-write_body-clause-then c =
-    elim c.if-is_empty.branch [
-      then-is_empty w ↦ (let h1 = w.if-is_empty in let h2 = w.self-is in let h3 = w.value-is in let h4 = c.is_empty.ensures in let h5 = c.in_ok-write_body.ensures.then in let h6 = c.tag.view_is in ?)
-    | else-is_empty+in_ok-meet w ↦ (let h1 = w.if-is_empty in let h2 = w.self-is in let h3 = w.value-is in let h4 = w.in_ok-meet in let h5 = c.if-branch.true in ?)
-    ]
+pub returns-in_ok-write_body-2-clause-then : goal.returns-in_ok-write_body-2-clause-then
+returns-in_ok-write_body-2-clause-then c = λ part.
+    c.in_ok-write_body-2.ensures.then part
+    ∙ first_step part c.args.self.now.text.items c.args.self.now.tasks.items c.args.self.now.met c.meet.new.self c.args.tag.now.name (body_text part c.args.tag.now.is_union c.args.tag.now.name (open_body (tag_of c.args.tag.now)))
+    (eqb-false (length c.args.tag.now.name) 0 (sym c.is_nameless.ensures ∙ c.if-is_nameless.false))
+    (not-true _ (sym c.in_ok-first.ensures.first ∙ c.if-first.true))
+    (c.in_ok-first.ensures.met ∙ ap (λ b. if b then c.args.self.now.met ++ c.args.tag.now.name ∷ [] else c.args.self.now.met) c.if-first.true)
+
+pub returns-in_ok-write_again-clause-then : goal.returns-in_ok-write_again-clause-then
+returns-in_ok-write_again-clause-then c = λ part.
+    c.in_ok-write_again.ensures.then part
+    ∙ ap (λ met. final_text part c.args.self.now.text.items c.args.self.now.tasks.items met (writes (codes "@") ⨟ writes c.args.tag.now.name ⨟ writes (codes ";")))
+    (c.in_ok-first.ensures.met ∙ ap (λ b. if b then c.args.self.now.met ++ c.args.tag.now.name ∷ [] else c.args.self.now.met) c.if-first.false)
+    ∙ again_step part c.args.self.now.text.items c.args.self.now.tasks.items c.args.self.now.met c.args.tag.now.name (body_text part c.args.tag.now.is_union c.args.tag.now.name (open_body (tag_of c.args.tag.now)))
+    (eqb-false (length c.args.tag.now.name) 0 (sym c.is_nameless.ensures ∙ c.if-is_nameless.false))
+    (not-false _ (sym c.in_ok-first.ensures.first ∙ c.if-first.false))
