@@ -1,9 +1,9 @@
 -- Parts one behind another, and what a writer writes in the end.
-use Rattle.std.proofs.Common.{◌≡◌, ◌<◌, ◌≤◌, ℕ, zero, suc, ◌+◌, List, [], ◌∷◌, ◌++◌, length, length-append, append_assoc, append-nil, Option, Some, None, refl, sym, ap, ◌∙◌, arith}
+use Rattle.std.proofs.Common.{◌≡◌, ℕ, List, [], ◌∷◌, ◌++◌, append_assoc, append-nil, Option, Some, None, refl, sym, ap, ◌∙◌}
 use Rattle.p9_sig.specs.declared.writer.Task.{Task}
 use Rattle.p9_sig.specs.Parts.{Written, Part, writes, behind, continued, ◌⨟◌}
 use Rattle.p9_sig.specs.Texts.{text_in}
-use Rattle.p9_sig.specs.Writing.{task_text, tasks_text, final_text, Keeps}
+use Rattle.p9_sig.specs.Writing.{task_text, tasks_text, final_text}
 
 behind_twice : (xs ys : List ℕ) (o : Option Written) → behind (xs ++ ys) o ≡ behind xs (behind ys o)
 behind_twice xs ys None = refl

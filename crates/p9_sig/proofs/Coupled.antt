@@ -1,18 +1,16 @@
 -- Types that are written with one text are read alike.
-use Rattle.std.proofs.Common.{◌≡◌, ◌<◌, ◌⊎◌, inl, inr, ℕ, zero, suc, ◌==◌, ◌&&◌, Bool, true, false, if◌then◌else◌, List, [], ◌∷◌, ◌++◌, length, slice_get, Option, Some, None, codes, refl, sym, ap, ◌∙◌, subst, append_assoc}
-use Rattle.std.specs.List.{list_all}
+use Rattle.std.proofs.Common.{◌≡◌, ℕ, zero, suc, ◌==◌, Bool, true, false, if◌then◌else◌, List, [], ◌∷◌, ◌++◌, slice_get, Option, Some, None, codes, refl, sym, ap, ◌∙◌}
 use Rattle.std.proofs.lemmas.Bool.{eqb-false}
 use Rattle.p9_lang.specs.Names.{is_among}
 use Rattle.p9_lang.specs.Types.{TypeTree, Void, Char, UChar, Short, UShort, Int, UInt, Long, ULong, Pointer, Array, Function, Tagged, TypeRow, none, more, MemberTree, TagTree, Tags}
 use Rattle.p9_lang.specs.Agreement.{open_body, kind_number}
-use Rattle.p9_lang.specs.TagRules.{Mentioned, AreMentioned, MembersMention, BodyMentions}
-use Rattle.p9_sig.specs.Parts.{Written, Part, writes, behind, continued, ◌⨟◌}
+use Rattle.p9_lang.specs.TagRules.{Mentioned, AreMentioned}
+use Rattle.p9_sig.specs.Parts.{Written, Part, writes, ◌⨟◌}
 use Rattle.p9_sig.specs.Texts.{number_text, opening, closing, type_text, row_text, members_text, body_text, once, tag_text_by, tag_text}
 use Rattle.p9_sig.proofs.Composing.{grouped}
-use Rattle.p9_sig.proofs.Names.{Grows, meets, met_now}
-use Rattle.p9_sig.proofs.Numbers.{IsWord, split, same_number, number_is_word}
-use Rattle.p9_sig.proofs.Reading.{Met, Alike, AlikeRow, AlikeMembers, AlikeBodies, AlikeHeld, AlikeTag, AlikeTags, Link}
-use Rattle.p9_sig.proofs.Coupling.{halves_of, fronted_of, Reads, Coupled, Couples, moved, read_so, couple_so, couple_as, couple_then, couple_writes, couple_front, couple_words}
+use Rattle.p9_sig.proofs.Numbers.{same_number, number_is_word}
+use Rattle.p9_sig.proofs.Reading.{Met, Alike, AlikeRow, AlikeTags}
+use Rattle.p9_sig.proofs.Coupling.{halves_of, fronted_of, Couples, couple_so, couple_as, couple_then, couple_writes, couple_front, couple_words}
 
 -- FIRST BYTES
 
@@ -32,12 +30,6 @@ begins_writes : (c : ℕ) (cs : List ℕ) (met : Met) (v : Written) → writes (
 begins_writes c cs met v e =
     let p : record { text = c ∷ cs; met = met } ≡ v = cc in
     record { others = cs; is = ap (λ t. t.text) (sym p) }
-
-begins_then : (c : ℕ) (a b : Part) (met : Met) (v : Written) → ((x : Written) → a met ≡ Some x → Begins c x.text) → (a ⨟ b) met ≡ Some v → Begins c v.text
-begins_then c a b met v h e =
-    let x = halves_of a b met v e in
-    let f = h x.first x.is_first in
-    record { others = f.others ++ x.second.text; is = x.text ∙ ap (λ t. t ++ x.second.text) f.is }
 
 -- the kind of type that begins with a byte
 unfoldable pub head_kind : ℕ → ℕ

@@ -1,11 +1,11 @@
 -- Structures and unions that are written with one text are read alike.
-use Rattle.std.proofs.Common.{◌≡◌, ◌<◌, ◌⊎◌, inl, inr, ℕ, zero, suc, ◌==◌, ◌&&◌, Bool, true, false, if◌then◌else◌, List, [], ◌∷◌, ◌++◌, length, slice_get, Option, Some, None, codes, refl, sym, ap, ◌∙◌, subst, append_assoc}
+use Rattle.std.proofs.Common.{◌≡◌, ◌⊎◌, inl, inr, ℕ, zero, suc, Bool, true, false, if◌then◌else◌, List, [], ◌∷◌, ◌++◌, slice_get, Option, Some, None, codes, refl, sym, ap, ◌∙◌, subst, append_assoc}
 use Rattle.std.proofs.lemmas.Bool.{eqb-false}
 use Rattle.p9_lang.specs.Names.{is_among}
-use Rattle.p9_lang.specs.Types.{TypeTree, TypeRow, MemberTree, TagTree, Tags}
+use Rattle.p9_lang.specs.Types.{MemberTree, TagTree, Tags}
 use Rattle.p9_lang.specs.Agreement.{open_body}
-use Rattle.p9_lang.specs.TagRules.{Mentioned, AreMentioned, MembersMention, BodyMentions}
-use Rattle.p9_sig.specs.Parts.{Written, Part, writes, behind, continued, ◌⨟◌}
+use Rattle.p9_lang.specs.TagRules.{MembersMention, BodyMentions}
+use Rattle.p9_sig.specs.Parts.{Written, writes, ◌⨟◌}
 use Rattle.p9_sig.specs.Texts.{opening, closing, type_text, members_text, body_text, once, tag_text_by, tag_text}
 use Rattle.p9_sig.proofs.Names.{Grows, meets, met_now}
 use Rattle.p9_sig.proofs.Numbers.{IsWord, split}
@@ -141,10 +141,10 @@ module _ (A B : Tags) (R S : ℕ → Type 0) (m n : ℕ) (tags : (i j : ℕ) →
         kind = z.kind;
         name = z.name;
         coupled = record {
-            rest = z.rest;
-            reads = moved A B R S (λ M. Unit {0}) met met p.met met q.met (ap (λ t. t.met) (sym f)) (ap (λ t. t.met) (sym g) ∙ same z.name)
-                (record { same = refl; grows = λ x m. m; alike = λ M grows. tt; links = λ M grows x m. inl m });
-          };
+          rest = z.rest;
+          reads = moved A B R S (λ M. Unit {0}) met met p.met met q.met (ap (λ t. t.met) (sym f)) (ap (λ t. t.met) (sym g) ∙ same z.name)
+              (record { same = refl; grows = λ x m. m; alike = λ M grows. tt; links = λ M grows x m. inl m });
+        };
       }
   coupled_bodies u v x y None (Some us) wx wy wa wb ra sb met met' p q r s same e k h =
       absurd (opaque_or_whole v us (firsts_same 63 (body_byte v (Some us)) p.text q.text r s
@@ -162,21 +162,21 @@ module _ (A B : Tags) (R S : ℕ → Type 0) (m n : ℕ) (tags : (i j : ℕ) →
       let p3 = fronted_of (codes ":") (fs ⨟ writes (closing u)) met p2.back p2.is in
       let q3 = fronted_of (codes ":") (gs ⨟ writes (closing v)) met' q2.back q2.is in
       let o = opened_alike u v (p1.back.text ++ r) (q1.back.text ++ s)
-          (sym (append_assoc (opening u) p1.back.text r) ∙ ap (λ t. t ++ r) (sym p1.text) ∙ h ∙ ap (λ t. t ++ s) q1.text ∙ append_assoc (opening v) q1.back.text s) in
+      (sym (append_assoc (opening u) p1.back.text r) ∙ ap (λ t. t ++ r) (sym p1.text) ∙ h ∙ ap (λ t. t ++ s) q1.text ∙ append_assoc (opening v) q1.back.text s) in
       let left : p1.back.text ++ r ≡ x ++ 58 ∷ (p3.back.text ++ r) = ap (λ t. t ++ r) (p2.text ∙ ap (λ t. x ++ t) p3.text) ∙ append_assoc x (58 ∷ p3.back.text) r in
       let right : q1.back.text ++ s ≡ y ++ 58 ∷ (q3.back.text ++ s) = ap (λ t. t ++ s) (q2.text ∙ ap (λ t. y ++ t) q3.text) ∙ append_assoc y (58 ∷ q3.back.text) s in
       let z = split x y 58 58 (p3.back.text ++ r) (q3.back.text ++ s) wx wy refl refl (sym left ∙ o.rest ∙ right) in
       let there : (gs ⨟ writes (closing u)) met ≡ Some q3.back =
-          ap (λ c. (gs ⨟ writes (closing c)) met) o.kind ∙ ap (λ l. (gs ⨟ writes (closing v)) l) (sym (same z.word)) ∙ q3.is in
+      ap (λ c. (gs ⨟ writes (closing c)) met) o.kind ∙ ap (λ l. (gs ⨟ writes (closing v)) l) (sym (same z.word)) ∙ q3.is in
       let c = coupled_members u ts us wa wb ra sb met p3.back q3.back r s p3.is there z.rest in
       record {
         kind = o.kind;
         name = z.word;
         coupled = record {
-            rest = c.rest;
-            reads = moved A B R S (λ M. AlikeMembers (AlikeTags A B R S m M) ts us) met p3.back.met p.met q3.back.met q.met
-                (p1.after ∙ p2.after ∙ p3.after) (q1.after ∙ q2.after ∙ q3.after) c.reads;
-          };
+          rest = c.rest;
+          reads = moved A B R S (λ M. AlikeMembers (AlikeTags A B R S m M) ts us) met p3.back.met p.met q3.back.met q.met
+              (p1.after ∙ p2.after ∙ p3.after) (q1.after ∙ q2.after ∙ q3.after) c.reads;
+        };
       }
 
   -- two structures
@@ -185,9 +185,6 @@ module _ (A B : Tags) (R S : ℕ → Type 0) (m n : ℕ) (tags : (i j : ℕ) →
       (ms : BodyMentions R (open_body s)) (mt : BodyMentions S (open_body t)) (met : Met) (p q : Written) (r r' : List ℕ) (h : p.text ++ r ≡ q.text ++ r') where
     abbrev Like : Met → Type 0
     Like M = (s.name ≡ t.name) × AlikeHeld M (AlikeTags A B R S m M) s.name s t
-
-    whole_left : List ℕ → Part
-    whole_left x = body_text (tag_text m A) s.is_union x (open_body s)
 
     -- one with a tag that is met here
     opened : (c : ℕ) (cs : List ℕ) → s.name ≡ c ∷ cs → t.name ≡ c ∷ cs → s.is_union ≡ t.is_union
@@ -201,8 +198,19 @@ module _ (A B : Tags) (R S : ℕ → Type 0) (m n : ℕ) (tags : (i j : ℕ) →
       where
         link : (M : Met) → Grows p.met M → (x : List ℕ) → x ≡ c ∷ cs → Link A B R S M x
         link M sub x e = record {
-          depth = m; i = i; j = j; s = s; t = t; left_reached = ri; right_reached = sj; left = left; right = right;
-          left_name = ex ∙ sym e; right_name = ey ∙ sym e; same_kind = uv; bodies = z.alike M sub;
+          depth = m;
+          i = i;
+          j = j;
+          s = s;
+          t = t;
+          left_reached = ri;
+          right_reached = sj;
+          left = left;
+          right = right;
+          left_name = ex ∙ sym e;
+          right_name = ey ∙ sym e;
+          same_kind = uv;
+          bodies = z.alike M sub;
         }
 
         by : (M : Met) → Grows p.met M → (x : List ℕ) → (is_among (met ++ (c ∷ cs) ∷ []) x ≡ true) ⊎ Link A B R S M x → (is_among met x ≡ true) ⊎ Link A B R S M x
@@ -229,7 +237,7 @@ module _ (A B : Tags) (R S : ℕ → Type 0) (m n : ℕ) (tags : (i j : ℕ) →
         let l : (64 ∷ ((c ∷ cs) ++ 59 ∷ [])) ++ r ≡ (64 ∷ ((d ∷ ds) ++ 59 ∷ [])) ++ r' = ap (λ t. t.text ++ r) f ∙ h ∙ ap (λ t. t.text ++ r') (sym g) in
         let tail = tails_same 64 64 (((c ∷ cs) ++ 59 ∷ []) ++ r) (((d ∷ ds) ++ 59 ∷ []) ++ r') l in
         let z = split (c ∷ cs) (d ∷ ds) 59 59 r r' (subst IsWord ex ws) (subst IsWord ey wt) refl refl
-            (sym (append_assoc (c ∷ cs) (59 ∷ []) r) ∙ tail ∙ append_assoc (d ∷ ds) (59 ∷ []) r') in
+        (sym (append_assoc (c ∷ cs) (59 ∷ []) r) ∙ tail ∙ append_assoc (d ∷ ds) (59 ∷ []) r') in
         record {
           rest = z.rest;
           reads = moved A B R S Like met met p.met met q.met (ap (λ t. t.met) (sym f)) (ap (λ t. t.met) (sym g))
@@ -248,7 +256,7 @@ module _ (A B : Tags) (R S : ℕ → Type 0) (m n : ℕ) (tags : (i j : ℕ) →
         (begins_front 64 [] (writes (d ∷ ds) ⨟ writes (codes ";")) met q k) (begins_body (tag_text m A) s.is_union (c ∷ cs) (open_body s) (met ++ (c ∷ cs) ∷ []) p e) (sym h)))
     named c cs d ds ex ey false false ia ib e k =
         let z = coupled_bodies s.is_union t.is_union (c ∷ cs) (d ∷ ds) (open_body s) (open_body t) (subst IsWord ex ws) (subst IsWord ey wt) bs bt ms mt
-            (met ++ (c ∷ cs) ∷ []) (met ++ (d ∷ ds) ∷ []) p q r r' (λ w. ap (λ l. met ++ l ∷ []) (sym w)) e k h in
+        (met ++ (c ∷ cs) ∷ []) (met ++ (d ∷ ds) ∷ []) p q r r' (λ w. ap (λ l. met ++ l ∷ []) (sym w)) e k h in
         record { rest = z.coupled.rest; reads = opened c cs ex (ey ∙ sym z.name) z.kind z.coupled.reads }
 
     -- one with a tag and one without
@@ -296,7 +304,7 @@ all_tags A B R S a b (suc m) (suc n) i j ri sj met p q r r' e k h = by (all_tags
     by tags (Some s) None f g e k = cc
     by tags (Some s) (Some t) f g e k =
         let z = coupled_tags A B R S m n tags i j ri sj s t f g (a.names i s f).0 (b.names j t g).0 (a.names i s f).1 (b.names j t g).1
-            (a.bodies i s ri f) (b.bodies j t sj g) met p q r r' h s.name t.name refl refl e k in
+        (a.bodies i s ri f) (b.bodies j t sj g) met p q r r' h s.name t.name refl refl e k in
         record {
           rest = z.rest;
           reads = read_so A B R S (λ M. (s.name ≡ t.name) × AlikeHeld M (AlikeTags A B R S m M) s.name s t)

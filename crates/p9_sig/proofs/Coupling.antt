@@ -1,5 +1,5 @@
 -- Parts that are written with one text are read alike: what combines such parts.
-use Rattle.std.proofs.Common.{◌≡◌, ◌⊎◌, inl, inr, ℕ, zero, suc, ◌==◌, ◌||◌, Bool, true, false, if◌then◌else◌, List, [], ◌∷◌, ◌++◌, slice_get, Option, Some, None, codes, refl, sym, ap, ◌∙◌, subst, append_assoc}
+use Rattle.std.proofs.Common.{◌≡◌, ◌⊎◌, inl, inr, ℕ, ◌||◌, Bool, true, false, List, [], ◌∷◌, ◌++◌, Option, Some, None, refl, sym, ap, ◌∙◌, subst, append_assoc}
 use Rattle.std.proofs.lemmas.Bool.{or_cases}
 use Rattle.p9_lang.specs.Names.{same_name, is_among}
 use Rattle.p9_lang.specs.TagRules.{is_letter_or_digit}
@@ -121,7 +121,7 @@ module _ (A B : Tags) (R S : ℕ → Type 0) where
       let x = halves_of a c met v e in
       let y = halves_of b d met w f in
       let texts : x.first.text ++ (x.second.text ++ r) ≡ y.first.text ++ (y.second.text ++ s) =
-          sym (append_assoc x.first.text x.second.text r) ∙ ap (λ t. t ++ r) (sym x.text) ∙ g ∙ ap (λ t. t ++ s) y.text ∙ append_assoc y.first.text y.second.text s in
+      sym (append_assoc x.first.text x.second.text r) ∙ ap (λ t. t ++ r) (sym x.text) ∙ g ∙ ap (λ t. t ++ s) y.text ∙ append_assoc y.first.text y.second.text s in
       let z = h met x.first y.first (x.second.text ++ r) (y.second.text ++ s) x.is_first y.is_first texts in
       let q = k x.first.met x.second y.second r s x.is_second (ap d z.reads.same ∙ y.is_second) z.rest in
       record {
@@ -153,9 +153,9 @@ module _ (A B : Tags) (R S : ℕ → Type 0) where
       let l' = fronted_of (c ∷ []) a met l.back l.is in
       let m' = fronted_of (c ∷ []) b met m.back m.is in
       let left : v.text ++ r ≡ x ++ c ∷ (l'.back.text ++ r) =
-          ap (λ t. t ++ r) (l.text ∙ ap (λ t. x ++ t) l'.text) ∙ append_assoc x (c ∷ l'.back.text) r in
+      ap (λ t. t ++ r) (l.text ∙ ap (λ t. x ++ t) l'.text) ∙ append_assoc x (c ∷ l'.back.text) r in
       let right : w.text ++ s ≡ y ++ c ∷ (m'.back.text ++ s) =
-          ap (λ t. t ++ s) (m.text ∙ ap (λ t. y ++ t) m'.text) ∙ append_assoc y (c ∷ m'.back.text) s in
+      ap (λ t. t ++ s) (m.text ∙ ap (λ t. y ++ t) m'.text) ∙ append_assoc y (c ∷ m'.back.text) s in
       let z = split x y c c (l'.back.text ++ r) (m'.back.text ++ s) p q i i (sym left ∙ g ∙ right) in
       let k = h met l'.back m'.back r s l'.is m'.is z.rest in
       record {

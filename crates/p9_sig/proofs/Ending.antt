@@ -1,5 +1,5 @@
 -- Over valid structures each type has a text.
-use Rattle.std.proofs.Common.{◌≡◌, ◌<◌, ◌≤◌, ℕ, zero, suc, ◌+◌, ◌*◌, ◌&&◌, not, Bool, true, false, if◌then◌else◌, List, [], ◌∷◌, ◌++◌, length, slice_get, Option, Some, None, IsSome, is_some, codes, refl, sym, ap, ◌∙◌, subst, arith}
+use Rattle.std.proofs.Common.{◌≡◌, ◌<◌, ◌≤◌, ℕ, zero, suc, ◌+◌, ◌*◌, Bool, true, false, if◌then◌else◌, List, [], ◌∷◌, ◌++◌, length, slice_get, Option, Some, None, is_some, codes, refl, sym, ap, ◌∙◌, arith}
 use Rattle.std.specs.List.{list_all}
 use Rattle.std.proofs.lemmas.Bool.{and_parts, ltb-true, true≢false}
 use Rattle.std.proofs.Math.Nat.{mul-le-mul_right}
@@ -8,7 +8,7 @@ use Rattle.p9_lang.specs.Types.{TypeTree, Void, Char, UChar, Short, UShort, Int,
 use Rattle.p9_lang.specs.Agreement.{open_body}
 use Rattle.p9_lang.specs.TagRules.{is_name_or_none, is_type_over, are_types_over, is_member_over, is_body_over, is_tag_over, Mentioned, AreMentioned, MembersMention, BodyMentions, UnlessNamed, TagMentions, NamelessEnds, AreValid}
 use Rattle.p9_sig.specs.Parts.{Written, Part, writes, behind, continued, ◌⨟◌}
-use Rattle.p9_sig.specs.Texts.{number_text, opening, closing, type_text, row_text, members_text, body_text, once, tag_text_by, tag_text, deepest, text_in, signature_text}
+use Rattle.p9_sig.specs.Texts.{number_text, opening, closing, type_text, row_text, members_text, body_text, once, tag_text_by, tag_text, deepest, text_in}
 use Rattle.p9_sig.specs.TypesInRange.{IsOver}
 use Rattle.p9_sig.specs.Laws.{TypesHaveTexts}
 use Rattle.p9_sig.proofs.Names.{Grows, grows_on, meets, met_now}
@@ -89,10 +89,6 @@ there_is (s ∷ A) zero lt e = cc
 there_is (s ∷ A) (suc i) lt e = there_is A i (omega arith) e
 
 -- STRUCTURES THAT ARE STILL UNMET
-
-one_unless : Bool → ℕ
-one_unless true = 0
-one_unless false = 1
 
 abbrev unmet : Tags → List (List ℕ) → ℕ
 unmet [] met = 0

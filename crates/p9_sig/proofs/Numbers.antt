@@ -1,11 +1,11 @@
 -- Numbers as decimal digits, and names: texts of letters and digits.
-use Rattle.std.proofs.Common.{◌≡◌, ◌<◌, ◌≤◌, ℕ, zero, suc, ◌+◌, ◌*◌, ◌/◌, ◌%◌, ◌^◌, ◌==◌, ◌&&◌, ◌||◌, Bool, true, false, if◌then◌else◌, nat_le, List, [], ◌∷◌, ◌++◌, map, get_or, decimal, codes, refl, sym, ap, ◌∙◌, subst, arith}
+use Rattle.std.proofs.Common.{◌≡◌, ◌<◌, ◌≤◌, ℕ, zero, suc, ◌+◌, ◌/◌, ◌%◌, ◌^◌, ◌&&◌, true, false, if◌then◌else◌, nat_le, List, [], ◌∷◌, ◌++◌, map, get_or, decimal, codes, refl, sym, ap, ◌∙◌, subst, arith}
 use Rattle.std.specs.List.{list_all, AllByRecursion}
 use Rattle.std.specs.Int.Digits.{digits_of}
-use Rattle.std.proofs.lemmas.Bool.{eqb-true, eqb-false, ne_eqb, and_parts, and_from, or_left, or_right, le-leb, true≢false}
+use Rattle.std.proofs.lemmas.Bool.{ne_eqb, and_parts, and_from, or_left, or_right, le-leb, true≢false}
 use Rattle.std.proofs.lemmas.Fmt.{decimal_by_steps}
 use Rattle.std.proofs.lemmas.Int.Digits.{digits_of_step, all_below_base_digits_of, same_from_digits_of, first_digits_of}
-use Rattle.p9_lang.specs.TagRules.{is_letter, is_letter_or_digit, is_name, is_name_or_none}
+use Rattle.p9_lang.specs.TagRules.{is_letter, is_letter_or_digit, is_name_or_none}
 use Rattle.p9_sig.specs.Texts.{number_text}
 
 abbrev pub glyph : ℕ → ℕ

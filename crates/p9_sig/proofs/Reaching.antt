@@ -1,13 +1,13 @@
 -- The structures that a type reaches.
-use Rattle.std.proofs.Common.{◌≡◌, ◌<◌, ◌≤◌, ◌⊎◌, inl, inr, ℕ, zero, suc, ◌+◌, ◌==◌, ◌||◌, ◌&&◌, not, Bool, true, false, if◌then◌else◌, List, [], ◌∷◌, length, slice_get, Option, Some, None, refl, sym, ap, ◌∙◌, subst, arith}
+use Rattle.std.proofs.Common.{◌≡◌, inl, inr, ℕ, zero, suc, ◌+◌, ◌==◌, not, Bool, true, false, if◌then◌else◌, List, [], ◌∷◌, length, slice_get, Option, Some, None, refl, sym, ap, ◌∙◌, arith}
 use Rattle.std.specs.List.{list_all}
 use Rattle.std.proofs.lemmas.Bool.{eqb-true, eq-eqb, and_parts, or_cases, or_left, or_right}
 use Rattle.p9_lang.specs.Names.{same_name, is_nameless}
-use Rattle.p9_lang.specs.Types.{TypeTree, Void, Char, UChar, Short, UShort, Int, UInt, Long, ULong, Pointer, Array, Function, Tagged, TypeRow, none, more, MemberTree, TagTree, Tags}
+use Rattle.p9_lang.specs.Types.{TypeTree, Pointer, Array, Function, Tagged, TypeRow, none, more, MemberTree, TagTree, Tags}
 use Rattle.p9_lang.specs.Agreement.{open_body}
 use Rattle.p9_lang.specs.TagRules.{is_name_or_none, is_type_over, is_member_over, is_body_over, is_tag_over, Mentioned, AreMentioned, MembersMention, BodyMentions, AreValid, mentions, row_mentions, members_mention, body_mentions, tag_mentions, leads_to, reaches, name_at, ArePlainFor}
 use Rattle.p9_sig.proofs.Names.{same_self}
-use Rattle.p9_sig.proofs.Numbers.{IsWord, name_is_word}
+use Rattle.p9_sig.proofs.Numbers.{name_is_word}
 use Rattle.p9_sig.proofs.Ending.{in_list, open_mentions}
 use Rattle.p9_sig.proofs.Reading.{NamesDiffer}
 use Rattle.p9_sig.proofs.CoupledTags.{AreWords, BodyWords, AreReached}
@@ -20,25 +20,25 @@ module _ (f g : ℕ → Bool) (h : (i : ℕ) → f i ≡ true → g i ≡ true) 
     mentions_more (Pointer t) e = mentions_more t e
     mentions_more (Array t n) e = mentions_more t e
     mentions_more (Function t ts) e = elim (or_cases (mentions f t) (row_mentions f ts) e) [
-        inl p ↦ or_left (mentions g t) (row_mentions g ts) (mentions_more t p)
+      | inl p ↦ or_left (mentions g t) (row_mentions g ts) (mentions_more t p)
       | inr p ↦ or_right (mentions g t) (row_mentions g ts) (row_more ts p)
-      ]
+    ]
     mentions_more (Tagged i) e = h i e
     mentions_more t e = e
 
     row_more : (ts : TypeRow) → row_mentions f ts ≡ true → row_mentions g ts ≡ true
     row_more none e = e
     row_more (more t ts) e = elim (or_cases (mentions f t) (row_mentions f ts) e) [
-        inl p ↦ or_left (mentions g t) (row_mentions g ts) (mentions_more t p)
+      | inl p ↦ or_left (mentions g t) (row_mentions g ts) (mentions_more t p)
       | inr p ↦ or_right (mentions g t) (row_mentions g ts) (row_more ts p)
-      ]
+    ]
 
   members_more : (ms : List MemberTree) → members_mention f ms ≡ true → members_mention g ms ≡ true
   members_more [] e = e
   members_more (m ∷ ms) e = elim (or_cases (mentions f m.type) (members_mention f ms) e) [
-      inl p ↦ or_left (mentions g m.type) (members_mention g ms) (mentions_more m.type p)
+    | inl p ↦ or_left (mentions g m.type) (members_mention g ms) (mentions_more m.type p)
     | inr p ↦ or_right (mentions g m.type) (members_mention g ms) (members_more ms p)
-    ]
+  ]
 
   body_more : (b : Option (List MemberTree)) → body_mentions f b ≡ true → body_mentions g b ≡ true
   body_more None e = e
@@ -56,7 +56,7 @@ mutual
   mentioned_all P (Array t n) h = mentioned_all P t h
   mentioned_all P (Function t ts) h = (
     mentioned_all P t (λ k e. h k (or_left (mentions (λ q. q == k) t) (row_mentions (λ q. q == k) ts) e)),
-    row_all P ts (λ k e. h k (or_right (mentions (λ q. q == k) t) (row_mentions (λ q. q == k) ts) e))
+    row_all P ts (λ k e. h k (or_right (mentions (λ q. q == k) t) (row_mentions (λ q. q == k) ts) e)),
   )
   mentioned_all P (Tagged i) h = h i (eq-eqb i i refl)
   mentioned_all P t h = tt
@@ -65,14 +65,14 @@ mutual
   row_all P none h = tt
   row_all P (more t ts) h = (
     mentioned_all P t (λ k e. h k (or_left (mentions (λ q. q == k) t) (row_mentions (λ q. q == k) ts) e)),
-    row_all P ts (λ k e. h k (or_right (mentions (λ q. q == k) t) (row_mentions (λ q. q == k) ts) e))
+    row_all P ts (λ k e. h k (or_right (mentions (λ q. q == k) t) (row_mentions (λ q. q == k) ts) e)),
   )
 
 members_all : (P : ℕ → Type 0) (ms : List MemberTree) → ((k : ℕ) → members_mention (λ q. q == k) ms ≡ true → P k) → MembersMention P ms
 members_all P [] h = tt
 members_all P (m ∷ ms) h = (
   mentioned_all P m.type (λ k e. h k (or_left (mentions (λ q. q == k) m.type) (members_mention (λ q. q == k) ms) e)),
-  members_all P ms (λ k e. h k (or_right (mentions (λ q. q == k) m.type) (members_mention (λ q. q == k) ms) e))
+  members_all P ms (λ k e. h k (or_right (mentions (λ q. q == k) m.type) (members_mention (λ q. q == k) ms) e)),
 )
 
 body_all : (P : ℕ → Type 0) (b : Option (List MemberTree)) → ((k : ℕ) → body_mentions (λ q. q == k) b ≡ true → P k) → BodyMentions P b
@@ -92,10 +92,10 @@ leads_self (suc d) A k q e = or_left (q == k) (tag_mentions (leads_to d A k) (sl
 leads_deeper : (d : ℕ) (A : Tags) (i j : ℕ) → leads_to d A i j ≡ true → leads_to (suc d) A i j ≡ true
 leads_deeper zero A i j e = or_left (j == i) (tag_mentions (leads_to zero A i) (slice_get A j)) e
 leads_deeper (suc d) A i j e = elim (or_cases (j == i) (tag_mentions (leads_to d A i) (slice_get A j)) e) [
-    inl p ↦ or_left (j == i) (tag_mentions (leads_to (suc d) A i) (slice_get A j)) p
+  | inl p ↦ or_left (j == i) (tag_mentions (leads_to (suc d) A i) (slice_get A j)) p
   | inr p ↦ or_right (j == i) (tag_mentions (leads_to (suc d) A i) (slice_get A j))
       (tag_more (leads_to d A i) (leads_to (suc d) A i) (λ q f. leads_deeper d A i q f) (slice_get A j) p)
-  ]
+]
 
 -- a structure leads to what its body mentions
 leads_once : (d : ℕ) (A : Tags) (i k : ℕ) (s : TagTree) → slice_get A i ≡ Some s → body_mentions (λ q. q == k) s.members ≡ true → leads_to (suc d) A k i ≡ true
@@ -107,10 +107,10 @@ leads_on : (d : ℕ) (A : Tags) (i k j : ℕ) (s : TagTree) → slice_get A i �
     → leads_to d A i j ≡ true → leads_to (suc d) A k j ≡ true
 leads_on zero A i k j s f e g = ap (leads_to 1 A k) (eqb-true j i g) ∙ leads_once 0 A i k s f e
 leads_on (suc d) A i k j s f e g = elim (or_cases (j == i) (tag_mentions (leads_to d A i) (slice_get A j)) g) [
-    inl p ↦ ap (leads_to (suc (suc d)) A k) (eqb-true j i p) ∙ leads_once (suc d) A i k s f e
+  | inl p ↦ ap (leads_to (suc (suc d)) A k) (eqb-true j i p) ∙ leads_once (suc d) A i k s f e
   | inr p ↦ or_right (j == k) (tag_mentions (leads_to (suc d) A k) (slice_get A j))
       (tag_more (leads_to d A i) (leads_to (suc d) A k) (λ q r. leads_on d A i k q s f e r) (slice_get A j) p)
-  ]
+]
 
 pub reached_first : (A : Tags) (type : TypeTree) → Mentioned (Reached A type) type
 reached_first A type =
@@ -135,9 +135,9 @@ names_differ A type plain i j s t c cs ri rj f g m n =
     let ei : name_at (slice_get A i) ≡ c ∷ cs = ap name_at f ∙ m in
     let ej : name_at (slice_get A j) ≡ c ∷ cs = ap name_at g ∙ n in
     let same : i ≡ j = plain (ri.depth + rj.depth) i j (reaches_to rj.depth ri.depth (ri.depth + rj.depth) A type i ri.is refl)
-        (reaches_to ri.depth rj.depth (ri.depth + rj.depth) A type j rj.is (omega arith))
-        (ap (λ x. not (is_nameless x)) ei)
-        (ap (λ x. same_name x (name_at (slice_get A j))) ei ∙ ap (same_name (c ∷ cs)) ej ∙ same_self (c ∷ cs)) in
+    (reaches_to ri.depth rj.depth (ri.depth + rj.depth) A type j rj.is (omega arith))
+    (ap (λ x. not (is_nameless x)) ei)
+    (ap (λ x. same_name x (name_at (slice_get A j))) ei ∙ ap (same_name (c ∷ cs)) ej ∙ same_self (c ∷ cs)) in
     let there : Some s ≡ Some t = sym f ∙ ap (slice_get A) same ∙ g in
     cc
 

@@ -1,9 +1,9 @@
 -- Types that are alike but for what their tagged structures hold agree to every depth, where each tag
 -- that was met stands for structures that hold what is alike.
-use Rattle.std.proofs.Common.{◌≡◌, ◌⊎◌, inl, inr, ℕ, zero, suc, ◌==◌, ◌&&◌, Bool, true, false, if◌then◌else◌, List, [], ◌∷◌, slice_get, Option, Some, None, refl, sym, ap, ◌∙◌, subst}
+use Rattle.std.proofs.Common.{◌≡◌, ℕ, zero, suc, ◌==◌, ◌&&◌, Bool, true, false, List, [], ◌∷◌, slice_get, Option, Some, None, refl, sym, ap, ◌∙◌}
 use Rattle.std.proofs.lemmas.Bool.{and_from, eq-eqb}
 use Rattle.p9_lang.specs.Names.{same_name, is_among}
-use Rattle.p9_lang.specs.Types.{TypeTree, Void, Char, UChar, Short, UShort, Int, UInt, Long, ULong, Pointer, Array, Function, Tagged, TypeRow, none, more, MemberTree, TagTree, Tags}
+use Rattle.p9_lang.specs.Types.{TypeTree, Pointer, Array, Function, Tagged, TypeRow, none, more, MemberTree, TagTree, Tags}
 use Rattle.p9_lang.specs.Agreement.{open_body, kind_number, same_keyword, rows_agree, members_agree, bodies_agree, tags_agree, agree}
 use Rattle.p9_sig.proofs.Names.{same_self}
 
@@ -114,11 +114,12 @@ module _ (A B : Tags) (R S : ℕ → Type 0) (M : Met) (plain : NamesDiffer A R)
     held n i j s t ri sj p q (c ∷ cs) e f h =
         let l = links (c ∷ cs) h in
         let a = plain i l.i s l.s c cs ri l.left_reached p l.left e l.left_name in
-        let b = also j l.j t l.t c cs sj l.right_reached q l.right f l.right_name in
-        (ap (λ v. v.is_union) a ∙ l.same_kind ∙ sym (ap (λ v. v.is_union) b),
+        let b = also j l.j t l.t c cs sj l.right_reached q l.right f l.right_name in (
+          ap (λ v. v.is_union) a ∙ l.same_kind ∙ sym (ap (λ v. v.is_union) b),
           ap (λ v. bodies_agree (agree d A B) (open_body v) (open_body t)) a
-          ∙ ap (λ v. bodies_agree (agree d A B) (open_body l.s) (open_body v)) b
-          ∙ bodies l.depth (open_body l.s) (open_body l.t) l.bodies)
+              ∙ ap (λ v. bodies_agree (agree d A B) (open_body l.s) (open_body v)) b
+              ∙ bodies l.depth (open_body l.s) (open_body l.t) l.bodies,
+        )
 
     tags : (n i j : ℕ) → AlikeTags A B R S n M i j → tags_agree (agree d A B) (slice_get A i) (slice_get B j) ≡ true
     tags zero i j h = absurd h

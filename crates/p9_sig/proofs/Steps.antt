@@ -1,5 +1,5 @@
 -- What the writer's functions leave to be written, over what their calls leave.
-use Rattle.std.proofs.Common.{◌≡◌, ◌<◌, ◌≤◌, ◌⊎◌, inl, inr, ◌==◌, ◌&&◌, ◌||◌, append-nil, get_or, take, drop, ◌-◌, ℕ, zero, suc, ◌+◌, Bool, true, false, not, if◌then◌else◌, List, [], ◌∷◌, ◌++◌, length, length-append, slice_get, Option, Some, None, Result, Ok, Err, IsSome, is_some, OnOk, IsSomeAnd, codes, refl, sym, ap, ◌∙◌, subst, arith, bytes_eq}
+use Rattle.std.proofs.Common.{◌≡◌, ◌<◌, ◌≤◌, ◌⊎◌, inl, inr, ◌==◌, ◌&&◌, ◌||◌, append-nil, get_or, take, drop, ◌-◌, ℕ, zero, suc, Bool, true, false, if◌then◌else◌, List, [], ◌∷◌, ◌++◌, length, length-append, slice_get, Option, Some, None, Result, Ok, Err, IsSome, is_some, OnOk, IsSomeAnd, codes, refl, sym, ap, ◌∙◌, subst, arith, bytes_eq}
 use Rattle.std.specs.List.{list_any}
 use Rattle.std.proofs.lemmas.Bool.{cases_lt, true≢false}
 use Rattle.std.proofs.lemmas.List.{take_all}
@@ -7,11 +7,10 @@ use Rattle.p9_lang.specs.declared.types.CType.{CType}
 use Rattle.p9_lang.specs.declared.types.Member.{Member}
 use Rattle.p9_lang.specs.declared.types.Tag.{Tag}
 use Rattle.p9_lang.specs.Names.{same_name, is_among}
-use Rattle.p9_lang.specs.Types.{TypeTree, Tags, TagTree, MemberTree, type_of, types_of, type_row, member_of, members_of, tag_of, tags_of}
-use Rattle.p9_lang.specs.Agreement.{open_body}
+use Rattle.p9_lang.specs.Types.{Tags, MemberTree, type_of, types_of, type_row, members_of, tag_of, tags_of}
 use Rattle.p9_sig.specs.declared.writer.Task.{Task}
 use Rattle.p9_sig.specs.Parts.{Written, Part, writes, behind, continued, ◌⨟◌}
-use Rattle.p9_sig.specs.Texts.{number_text, opening, closing, type_text, row_text, members_text, body_text, once, tag_text_by, tag_text, deepest, text_in, signature_text}
+use Rattle.p9_sig.specs.Texts.{number_text, opening, closing, type_text, row_text, members_text, body_text, once, tag_text_by, tag_text, deepest, text_in}
 use Rattle.p9_sig.specs.Writing.{task_text, tasks_text, parameters_text, rest_of_body, final_text, tag_part, Keeps}
 use Rattle.p9_sig.proofs.Composing.{nothing_first, nothing_last, final_keep}
 use Rattle.p9_sig.proofs.Coupled.{row_grouped, member_grouped}
@@ -108,8 +107,8 @@ tag_step ts i t text tasks met g a e f k whole h =
     k
     ∙ ap (λ o. final_text (tag_part (tags_of ts)) text tasks met (tag_text_by (tag_part (tags_of ts)) o)) (sym (tag_get ts i t f))
     ∙ final_under (tag_part (tags_of ts)) text tasks met (tag_part (tags_of ts) i) (tag_text_by (tag_part (tags_of ts)) (slice_get (tags_of ts) i))
-        (λ m w q. deeper (deepest (tags_of ts)) (tags_of ts) i m w q) whole
-        (ap (final_text (tag_part (tags_of ts)) text tasks met) (sym e) ∙ h)
+    (λ m w q. deeper (deepest (tags_of ts)) (tags_of ts) i m w q) whole
+    (ap (final_text (tag_part (tags_of ts)) text tasks met) (sym e) ∙ h)
 
 none_there : (d : ℕ) (A : Tags) (i : ℕ) (met : List (List ℕ)) → slice_get A i ≡ None → tag_text d A i met ≡ None
 none_there zero A i met e = refl
@@ -134,7 +133,7 @@ there_is_one ts i text tasks met a e h = by (cases_lt i (length ts))
     by (inl lt) = lt
     by (inr le) =
         let none : final_text (tag_part (tags_of ts)) text tasks met a ≡ None =
-            not_written (tag_part (tags_of ts)) text tasks met a (ap (λ (p : Part). p met) e ∙ none_there (deepest (tags_of ts)) (tags_of ts) i met (beyond ts i le)) in
+        not_written (tag_part (tags_of ts)) text tasks met a (ap (λ (p : Part). p met) e ∙ none_there (deepest (tags_of ts)) (tags_of ts) i met (beyond ts i le)) in
         absurd (true≢false (sym h ∙ ap is_some none))
 
 -- MEETING
@@ -148,10 +147,6 @@ same_as_bytes (a ∷ x) (b ∷ y) = ap (λ q. (a == b) && q) (same_as_bytes x y)
 pub among_bytes : (ks : List (List ℕ)) (x : List ℕ) → list_any (bytes_eq x) ks ≡ is_among ks x
 among_bytes [] x = refl
 among_bytes (k ∷ ks) x = ap (λ q. q || list_any (bytes_eq x) ks) (same_as_bytes x k) ∙ ap (λ q. same_name x k || q) (among_bytes ks x)
-
-pub nameless_step : (F : Final) (x : List ℕ) (a : Part) → length x ≡ 0 → F a ≡ F (once x a)
-nameless_step F [] a e = refl
-nameless_step F (c ∷ cs) a e = absurd (omega arith)
 
 pub first_step : (part : ℕ → Part) (text : List ℕ) (tasks : List Task) (met later : List (List ℕ)) (x : List ℕ) (a : Part) → (length x ≡ 0 → ⊥)
     → is_among met x ≡ false → later ≡ met ++ x ∷ [] → final_text part text tasks later a ≡ final_text part text tasks met (once x a)

@@ -4,12 +4,12 @@ use Rattle.p9_lang.specs.declared.types.CType.{CType}
 use Rattle.p9_lang.specs.declared.types.CType.TheVariants as ctype
 use Rattle.p9_lang.specs.declared.types.Member.{Member}
 use Rattle.p9_lang.specs.declared.types.Tag.{Tag}
-use Rattle.p9_lang.specs.Types.{TypeTree, Void, Int, Pointer, Function, Tagged, TypeRow, TagTree, MemberTree, type_of, types_of, type_row, members_of, tag_of, tags_of, Tags}
+use Rattle.p9_lang.specs.Types.{Void, Int, Pointer, Tagged, type_of, types_of, type_row, members_of, tag_of, tags_of}
 use Rattle.p9_lang.specs.LayoutExamples.{of, structure}
 use Rattle.p9_lang.specs.TagRules.{Mentioned, AreMentioned, AreValid, Ends, NamelessEnds}
 use Rattle.p9_sig.specs.Examples.{node, edge, node_first}
 use Rattle.p9_sig.specs.TypesInRange.{IsOver}
-use Rattle.p9_sig.proofs.Shapes.{type_of_int, type_of_pointer, type_of_function}
+use Rattle.p9_sig.proofs.Shapes.{type_of_int, type_of_function}
 
 pub none_valid : AreValid []
 none_valid = record {

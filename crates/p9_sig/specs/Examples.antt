@@ -1,5 +1,5 @@
 -- Small types and their texts, computed.
-use Rattle.std.specs.Prelude.{◌≡◌, Bool, true, false, List, [], ◌∷◌, ℕ, Option, Some, None, codes}
+use Rattle.std.specs.Prelude.{◌≡◌, true, false, List, [], ◌∷◌, ℕ, Some, codes}
 use Rattle.p9_lang.specs.Types.{TypeTree, Void, Char, UChar, Int, UInt, ULong, Pointer, Array, Function, Tagged, TypeRow, MemberTree, TagTree, Tags}
 use Rattle.p9_lang.specs.Types as types
 use Rattle.p9_lang.specs.LayoutExamples.{of, structure, union_of, bodiless}

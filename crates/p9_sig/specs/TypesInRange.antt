@@ -1,5 +1,5 @@
 -- Types whose structures there are.
-use Rattle.std.specs.Prelude.{◌<◌, ℕ, length}
+use Rattle.std.specs.Prelude.{◌<◌, length}
 use Rattle.p9_lang.specs.Types.{TypeTree, Tags}
 use Rattle.p9_lang.specs.TagRules.{Mentioned}
 

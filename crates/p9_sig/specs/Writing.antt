@@ -1,6 +1,6 @@
 -- What a writer writes in the end: the bytes that it has, the part that it writes now, and the tasks
 -- that it keeps for later, of which the last comes first.
-use Rattle.std.specs.Prelude.{◌≡◌, ℕ, Bool, List, [], ◌∷◌, Option, Some, codes}
+use Rattle.std.specs.Prelude.{◌≡◌, ℕ, Bool, List, [], ◌∷◌, Option, Some, IsSome, codes}
 use Rattle.p9_lang.specs.declared.types.CType.{CType}
 use Rattle.p9_lang.specs.declared.types.Member.{Member}
 use Rattle.p9_lang.specs.Types.{Tags, type_of, types_of, type_row, members_of}
@@ -40,3 +40,25 @@ tag_part tags = tag_text (deepest tags) tags
 -- what was to be written still is
 abbrev pub Keeps : Option (List ℕ) → Option (List ℕ) → Type 0
 Keeps before after = (text : List ℕ) → before ≡ Some text → after ≡ Some text
+
+-- WHAT A STEP DOES, from a writer to the same one later
+
+-- bytes are written: what the later one writes now comes behind them
+abbrev pub Puts : Writer → Writer → List ℕ → Type 0
+Puts old new text = (tag : ℕ → Part) (now : Part) → final tag new now ≡ final tag old (writes text ⨟ now)
+
+-- a task is kept: it comes behind what the later one writes now
+abbrev pub KeepsTask : Writer → Writer → Task → Type 0
+KeepsTask old new task = (tag : ℕ → Part) (now : Part) → final tag new now ≡ final tag old (now ⨟ task_text tag task)
+
+-- a part is written or kept in tasks
+abbrev pub TakesOn : Writer → Writer → ((ℕ → Part) → Part) → Type 0
+TakesOn old new part = (tag : ℕ → Part) → final tag new (writes []) ≡ final tag old (part tag)
+
+-- the same over given structures, where the part comes to an end
+
+abbrev pub CanWrite : Tags → Writer → ((ℕ → Part) → Part) → Type 0
+CanWrite tags old part = IsSome (final (tag_part tags) old (part (tag_part tags)))
+
+abbrev pub TakesOnOver : Tags → Writer → Writer → ((ℕ → Part) → Part) → Type 0
+TakesOnOver tags old new part = Keeps (final (tag_part tags) old (part (tag_part tags))) (final (tag_part tags) new (writes []))

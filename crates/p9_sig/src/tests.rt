@@ -81,7 +81,10 @@ fn structures_that_name_each_other(rt: HostRuntime) -> Result<(), Fail> {
     let tags = Tags { list };
     let first = pointer(alloc, CType::Tagged(0))?;
     let text = signature(alloc, &first, &tags)?;
-    assert_eq!(rt; text.list.as_slice(), b"*{Node:v:i;e:*{Edge:to:*@Node;;};}".as_slice());
+    assert_eq!(rt;
+        text.list.as_slice(),
+        b"*{Node:v:i;e:*{Edge:to:*@Node;;};}".as_slice()
+    );
     Ok(())
 }
 

@@ -1,14 +1,14 @@
 // The text of a type, written from a list of tasks.
-ghost use Rattle.std.specs.Prelude.{◌≡◌, ◌==◌, ◌+◌, ◌≤◌, ◌<◌, [], ℕ, Some, Err, IsSome, OnOk, IfOk, IsSomeAnd, length, codes};
+ghost use Rattle.std.specs.Prelude.{◌≡◌, ◌==◌, ◌+◌, ◌≤◌, ◌<◌, Some, Err, OnOk, IfOk, IsSomeAnd, length, codes};
 ghost use Rattle.std.specs.Option.{option_copied};
 ghost use Rattle.p9_lang.specs.Types.{type_of, body_of, tag_of, tags_of};
 ghost use Rattle.p9_lang.specs.TagRules.{AreValid};
 ghost use Rattle.p9_lang.specs.Agreement.{open_body};
-ghost use Rattle.p9_sig.specs.Parts.{Part, writes, ◌⨟◌};
+ghost use Rattle.p9_sig.specs.Parts.{writes, ◌⨟◌};
 ghost use Rattle.p9_sig.specs.Texts.{number_text, opening, closing, type_text, body_text, tag_text_by, signature_text, signature_limit};
 ghost use Rattle.p9_sig.specs.TypesInRange.{IsOver};
 ghost use Rattle.p9_sig.specs.Laws.{TellsType};
-ghost use Rattle.p9_sig.specs.Writing.{task_text, parameters_text, rest_of_body, tag_part, final, Keeps};
+ghost use Rattle.p9_sig.specs.Writing.{task_text, parameters_text, rest_of_body, Puts, KeepsTask, TakesOn, CanWrite, TakesOnOver};
 
 use crate::fault::SigFault;
 use crate::met::MetTags;
@@ -17,19 +17,21 @@ use p9_base::{Bytes, NoMemory};
 use p9_lang::{CType, Ident, Member, Tag, Tags};
 use std::alloc::Global;
 
-/// The longest signature.
+// The bytes of the longest signature.
 const LIMIT: usize = 65536;
 
-/// What is to be written later.
+// What is to be written later.
 #[derive(Drop)]
 enum Task<'a> {
     Type(&'a CType),
-    /// The end of a parameter, the others, and the result.
+    // The end of a parameter, the others, and the result.
     Parameters(&'a [CType], &'a CType),
-    /// The end of a member, the others, and the end of the body, which may be a union's.
+    // The end of a member, the others, and the end of the body, which may be a union's.
     Members(&'a [Member], bool),
 }
 
+// A text that is being written. It knows what is to be written in the end: its bytes, what it writes
+// now, and its tasks from the last to the first.
 #[derive(Drop)]
 struct Writer<'a> {
     text: Vec<u8>,
@@ -39,7 +41,7 @@ struct Writer<'a> {
 
 impl<'a> Writer<'a> {
     fn put(&mut self, text: &[u8]) -> Result<(), NoMemory>
-        ensures then { OnOk result ((tag : ℕ → Part) (now : Part) → final tag self.new now ≡ final tag self.old (writes text.now ⨟ now)) }
+        ensures then { OnOk result (Puts self.old self.new text.now) }
         ensures grows { OnOk result (length self.new.text.items ≡ length self.old.text.items + length text.now) }
     {
         self.text.extend_from_slice(text)?;
@@ -47,7 +49,7 @@ impl<'a> Writer<'a> {
     }
 
     fn put_name(&mut self, name: &Ident) -> Result<(), NoMemory>
-        ensures then { OnOk result ((tag : ℕ → Part) (now : Part) → final tag self.new now ≡ final tag self.old (writes name.now ⨟ now)) }
+        ensures then { OnOk result (Puts self.old self.new name.now) }
         ensures grows { OnOk result (length self.old.text.items ≤ length self.new.text.items) }
     {
         self.put(name.list.as_slice())?;
@@ -55,7 +57,7 @@ impl<'a> Writer<'a> {
     }
 
     fn put_number(&mut self, n: u32) -> Result<(), NoMemory>
-        ensures then { OnOk result ((tag : ℕ → Part) (now : Part) → final tag self.new now ≡ final tag self.old (writes (number_text n) ⨟ now)) }
+        ensures then { OnOk result (Puts self.old self.new (number_text n)) }
         ensures grows { OnOk result (length self.old.text.items ≤ length self.new.text.items) }
     {
         let mut buffer = Buffer::new();
@@ -65,7 +67,7 @@ impl<'a> Writer<'a> {
     }
 
     fn keep(&mut self, task: Task<'a>) -> Result<(), NoMemory>
-        ensures then { OnOk result ((tag : ℕ → Part) (now : Part) → final tag self.new now ≡ final tag self.old (now ⨟ task_text tag task.entry)) }
+        ensures then { OnOk result (KeepsTask self.old self.new task.entry) }
         ensures same_text { OnOk result (length self.new.text.items ≡ length self.old.text.items) }
     {
         self.tasks.push(task)?;
@@ -73,8 +75,12 @@ impl<'a> Writer<'a> {
     }
 
     // The next parameter, or the result behind the last.
-    fn write_parameters(&mut self, parameters: &'a [CType], result_type: &'a CType) -> Result<(), NoMemory>
-        ensures then { OnOk result ((tag : ℕ → Part) → final tag self.new (writes []) ≡ final tag self.old (parameters_text tag parameters.now result_type.now)) }
+    fn write_parameters(
+        &mut self,
+        parameters: &'a [CType],
+        result_type: &'a CType,
+    ) -> Result<(), NoMemory>
+        ensures then { OnOk result (TakesOn self.old self.new (λ tag. parameters_text tag parameters.now result_type.now)) }
         ensures grows { OnOk result (length self.old.text.items ≤ length self.new.text.items) }
     {
         match parameters {
@@ -93,7 +99,7 @@ impl<'a> Writer<'a> {
 
     // The next member, or the end of the body behind the last.
     fn write_members(&mut self, members: &'a [Member], is_union: bool) -> Result<(), NoMemory>
-        ensures then { OnOk result ((tag : ℕ → Part) → final tag self.new (writes []) ≡ final tag self.old (rest_of_body tag members.now is_union)) }
+        ensures then { OnOk result (TakesOn self.old self.new (λ tag. rest_of_body tag members.now is_union)) }
         ensures grows { OnOk result (length self.old.text.items ≤ length self.new.text.items) }
     {
         match members {
@@ -113,7 +119,8 @@ impl<'a> Writer<'a> {
 
     // A structure or union whole, or its tag alone where its members don't count.
     fn write_body(&mut self, tag: &'a Tag) -> Result<(), NoMemory>
-        ensures then { OnOk result ((part : ℕ → Part) → final part self.new (writes []) ≡ final part self.old (body_text part tag.now.is_union tag.now.name (open_body (tag_of tag.now)))) }
+        ensures then { OnOk result (TakesOn self.old self.new (λ part.
+            body_text part tag.now.is_union tag.now.name (open_body (tag_of tag.now)))) }
         ensures grows { OnOk result (length self.old.text.items < length self.new.text.items) }
     {
         match counted_members(tag) {
@@ -136,7 +143,8 @@ impl<'a> Writer<'a> {
 
     // A tag that was met.
     fn write_again(&mut self, name: &Ident) -> Result<(), NoMemory>
-        ensures then { OnOk result ((tag : ℕ → Part) → final tag self.new (writes []) ≡ final tag self.old (writes (codes "@") ⨟ writes name.now ⨟ writes (codes ";"))) }
+        ensures then { OnOk result (TakesOn self.old self.new (λ tag.
+            writes (codes "@") ⨟ writes name.now ⨟ writes (codes ";"))) }
         ensures grows { OnOk result (length self.old.text.items < length self.new.text.items) }
     {
         self.put(b"@")?;
@@ -146,7 +154,7 @@ impl<'a> Writer<'a> {
     }
 
     fn write_tag(&mut self, alloc: Global, tag: &'a Tag) -> Result<(), NoMemory>
-        ensures then { OnOk result ((part : ℕ → Part) → final part self.new (writes []) ≡ final part self.old (tag_text_by part (Some (tag_of tag.now)))) }
+        ensures then { OnOk result (TakesOn self.old self.new (λ part. tag_text_by part (Some (tag_of tag.now)))) }
         ensures grows { OnOk result (length self.old.text.items < length self.new.text.items) }
     {
         if is_nameless(tag) {
@@ -164,8 +172,9 @@ impl<'a> Writer<'a> {
     }
 
     fn write_type(&mut self, alloc: Global, ty: &'a CType, tags: &'a [Tag]) -> Result<(), NoMemory>
-        requires { IsSome (final (tag_part (tags_of tags.now)) self.old (type_text (tag_part (tags_of tags.now)) (type_of ty.now))) }
-        ensures then { OnOk result (Keeps (final (tag_part (tags_of tags.now)) self.old (type_text (tag_part (tags_of tags.now)) (type_of ty.now))) (final (tag_part (tags_of tags.now)) self.new (writes []))) }
+        requires { CanWrite (tags_of tags.now) self.old (λ tag. type_text tag (type_of ty.now)) }
+        ensures then { OnOk result (TakesOnOver (tags_of tags.now) self.old self.new (λ tag.
+            type_text tag (type_of ty.now))) }
         ensures grows { OnOk result (length self.old.text.items < length self.new.text.items) }
     {
         match ty {
@@ -204,8 +213,9 @@ impl<'a> Writer<'a> {
     }
 
     fn write_task(&mut self, alloc: Global, task: Task<'a>, tags: &'a [Tag]) -> Result<(), NoMemory>
-        requires { IsSome (final (tag_part (tags_of tags.now)) self.old (task_text (tag_part (tags_of tags.now)) task)) }
-        ensures then { OnOk result (Keeps (final (tag_part (tags_of tags.now)) self.old (task_text (tag_part (tags_of tags.now)) task.entry)) (final (tag_part (tags_of tags.now)) self.new (writes []))) }
+        requires { CanWrite (tags_of tags.now) self.old (λ tag. task_text tag task) }
+        ensures then { OnOk result (TakesOnOver (tags_of tags.now) self.old self.new (λ tag.
+            task_text tag task.entry)) }
         ensures grows { OnOk result (length self.old.text.items < length self.new.text.items) }
     {
         match task {
@@ -262,10 +272,13 @@ fn closing(is_union: bool) -> &'static [u8]
 pub fn signature(alloc: Global, ty: &CType, tags: &Tags) -> Result<Bytes, SigFault>
     requires valid { AreValid (tags_of tags.now.list) }
     requires over { IsOver (tags_of tags.now.list) (type_of ty.now) }
-    ensures text { IfOk result (λ text. signature_text (tags_of tags.now.list) (type_of ty.now) ≡ Some text) }
+    ensures text { IfOk result (λ text.
+        signature_text (tags_of tags.now.list) (type_of ty.now) ≡ Some text) }
     ensures tells { IfOk result (TellsType (tags_of tags.now.list) (type_of ty.now)) }
     ensures within { IfOk result (λ text. length text ≤ signature_limit) }
-    ensures too_long { result ≡ Err SigFault.SignatureTooLong → IsSomeAnd (signature_text (tags_of tags.now.list) (type_of ty.now)) (λ text. signature_limit < length text) }
+    ensures too_long { result ≡ Err SigFault.SignatureTooLong →
+        IsSomeAnd (signature_text (tags_of tags.now.list) (type_of ty.now)) (λ text.
+        signature_limit < length text) }
 {
     let mut writer = Writer {
         text: Vec::new(alloc),

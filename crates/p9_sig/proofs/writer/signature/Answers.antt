@@ -11,10 +11,10 @@ use Rattle.p9_sig.proofs.writer.signature.Goals as goal
 pub write-init : goal.write-init
 write-init c = (
   c.in_ok-keep.ensures.then (tag_part (tags_of c.args.tags.now.list)) (writes [])
-  ∙ first_state (tag_part (tags_of c.args.tags.now.list)) c.new.result.items c.new-3.result.items c.new-2.result (type_text (tag_part (tags_of c.args.tags.now.list)) (type_of c.args.ty.now)) c.new.ensures.items c.new-3.ensures.items c.new-2.ensures,
+      ∙ first_state (tag_part (tags_of c.args.tags.now.list)) c.new.result.items c.new-3.result.items c.new-2.result (type_text (tag_part (tags_of c.args.tags.now.list)) (type_of c.args.ty.now)) c.new.ensures.items c.new-3.ensures.items c.new-2.ensures,
   let none = ap length c.new.ensures.items in
-  let same = c.in_ok-keep.ensures.same_text in
-  omega arith
+      let same = c.in_ok-keep.ensures.same_text in
+      omega arith,
 )
 
 pub write_task-requires : goal.write_task-requires
@@ -39,11 +39,11 @@ returns-then-len-gt-LIMIT-clause-too_long c = λ same.
 pub write-preserved : goal.write-preserved
 write-preserved c = (
   (kept_is (final_text (tag_part (tags_of c.args.tags.now.list)) c.write.writer.text.items c.pop.new.self.items c.write.writer.met (task_text (tag_part (tags_of c.args.tags.now.list)) c.in-Some.task)) (final (tag_part (tags_of c.args.tags.now.list)) c.write_task.new.self (writes [])) (signature_text (tags_of c.args.tags.now.list) (type_of c.args.ty.now))
-    (types_have_texts (tags_of c.args.tags.now.list) (type_of c.args.ty.now) c.requires.valid c.requires.over)
-    (sym (taken (tag_part (tags_of c.args.tags.now.list)) c.write.writer.text.items c.write.writer.tasks.items c.pop.new.self.items c.in-Some.task c.write.writer.met c.in-Some.ensures.items) ∙ c.write.invariant.0)
-    (subst (λ ts. Keeps (final_text (tag_part (tags_of ts)) c.write.writer.text.items c.pop.new.self.items c.write.writer.met (task_text (tag_part (tags_of ts)) c.in-Some.task)) (final (tag_part (tags_of ts)) c.write_task.new.self (writes [])))
-    c.as_slice.ensures c.in_ok-write_task.ensures.then)),
-  let within = c.if-len-gt-LIMIT.false in let size = c.len.ensures in omega arith
+      (types_have_texts (tags_of c.args.tags.now.list) (type_of c.args.ty.now) c.requires.valid c.requires.over)
+      (sym (taken (tag_part (tags_of c.args.tags.now.list)) c.write.writer.text.items c.write.writer.tasks.items c.pop.new.self.items c.in-Some.task c.write.writer.met c.in-Some.ensures.items) ∙ c.write.invariant.0)
+      (subst (λ ts. Keeps (final_text (tag_part (tags_of ts)) c.write.writer.text.items c.pop.new.self.items c.write.writer.met (task_text (tag_part (tags_of ts)) c.in-Some.task)) (final (tag_part (tags_of ts)) c.write_task.new.self (writes [])))
+      c.as_slice.ensures c.in_ok-write_task.ensures.then)),
+  let within = c.if-len-gt-LIMIT.false in let size = c.len.ensures in omega arith,
 )
 
 pub returns-clause-text : goal.returns-clause-text

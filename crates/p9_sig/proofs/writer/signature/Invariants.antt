@@ -1,4 +1,4 @@
-use Rattle.std.proofs.Common.{[], ◌≡◌, ◌≤◌, ◌-◌, length, IsSome}
+use Rattle.std.proofs.Common.{[], ◌≡◌, ◌≤◌, ◌-◌, length}
 use Rattle.p9_lang.specs.Types.{type_of, tags_of}
 use Rattle.p9_sig.specs.Parts.{writes}
 use Rattle.p9_sig.specs.Texts.{signature_text}

@@ -1,10 +1,10 @@
-use Rattle.std.proofs.Common.{[], ◌∷◌, ◌++◌, not, length, if◌then◌else◌, codes, sym, ap, ◌∙◌}
+use Rattle.std.proofs.Common.{[], ◌∷◌, ◌++◌, length, if◌then◌else◌, codes, sym, ap, ◌∙◌}
 use Rattle.std.proofs.lemmas.Bool.{eqb-false, not-true, not-false}
 use Rattle.p9_lang.specs.Types.{tag_of}
 use Rattle.p9_lang.specs.Agreement.{open_body}
 use Rattle.p9_sig.specs.Parts.{writes, ◌⨟◌}
 use Rattle.p9_sig.specs.Texts.{body_text}
-use Rattle.p9_sig.specs.Writing.{final, final_text}
+use Rattle.p9_sig.specs.Writing.{final_text}
 use Rattle.p9_sig.proofs.Steps.{first_step, again_step}
 use Rattle.p9_sig.proofs.writer.Writer.write_tag.Goals as goal
 
