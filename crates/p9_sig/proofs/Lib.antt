@@ -1,0 +1,16 @@
+mod Shapes
+mod Composing
+mod Names
+mod Deeper
+mod Ending
+mod Same
+mod Numbers
+mod Reading
+mod Coupling
+mod Coupled
+mod CoupledTags
+mod Reaching
+mod Telling
+mod Steps
+mod Examples
+mod TestTypes
