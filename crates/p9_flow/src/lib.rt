@@ -1,0 +1,10 @@
+//! Where the automatics of a function are live.
+#![tactic(auto)]
+
+mod acts;
+mod candidates;
+mod columns;
+mod order;
+mod rows;
+
+pub use rows::{Rows, live};
