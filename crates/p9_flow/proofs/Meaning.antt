@@ -178,7 +178,7 @@ module _ (f : AFunction) (candidates : List Bool) (acts : List Act) (same : acts
       let q = (form-of-act i a e).0 in (
         candidate-fills f v i c ∙ unwritten v (form_at f.code i) c (subst (λ (z : Act). z.write ≢ Some v) q ne),
         ap (λ b. b && holds_of (λ form. (falls form && (j == i + 1)) || goes_to j form) (form_at f.code i)) (ltb-is j (length f.code) (start-within v j js rest))
-        ∙ next-of-act v i j (form_at f.code i) (subst (λ (z : Act). GoesTo z i j) q g),
+            ∙ next-of-act v i j (form_at f.code i) (subst (λ (z : Act). GoesTo z i j) q g),
         way-of-acts v j js c rest,
       )
 

@@ -81,10 +81,13 @@ closed-each acts w column c i a e = c i (slice_get_within acts i a e) a e
 
 pub is-column : (acts : List Act) (w : ℕ) (column back : List ℕ) → back ≡ column → length column ≡ length acts → IsSound acts w column → IsClosed acts w column → IsColumn acts w back
 unfolding IsColumn IsSound
-is-column acts w column back q n s c = subst (λ z. IsColumn acts w z) (sym q) (n, λ i b li l. (
-  λ h. s i b l h,
-  λ (way, r). closed-holds acts w column b l (closed-each acts w column c) way i r,
-))
+is-column acts w column back q n s c = subst (λ z. IsColumn acts w z) (sym q) (
+  n,
+  λ i b li l. (
+    λ h. s i b l h,
+    λ (way, r). closed-holds acts w column b l (closed-each acts w column c) way i r,
+  ),
+)
 
 pub taken-back : (new items : List ℕ) (n : ℕ) → n ≡ length new → take n (new ++ drop (length new) items) ≡ new
 taken-back new items n e = ap (λ k. take k (new ++ drop (length new) items)) e ∙ take-append_seam new (drop (length new) items)

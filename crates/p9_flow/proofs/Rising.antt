@@ -166,4 +166,3 @@ raised-slack a i column after w l r =
     let sums : sum_by (λ x. 2 ^ 64 - 1 - x) (slice_set column i v) + (2 ^ 64 - 1 - slice_index column i) ≡ sum_by (λ x. 2 ^ 64 - 1 - x) column + (2 ^ 64 - 1 - v) = sum_by-set (λ x. 2 ^ 64 - 1 - x) column i v 0 l in
     let same : sum_by (λ x. 2 ^ 64 - 1 - x) after ≡ sum_by (λ x. 2 ^ 64 - 1 - x) (slice_set column i v) = ap (sum_by (λ x. 2 ^ 64 - 1 - x)) r.set in
     omega (arith, up, sums, same, r.other, r.room)
-

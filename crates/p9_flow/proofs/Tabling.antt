@@ -82,8 +82,8 @@ are-rows acts list width count bits ew ec all e = record {
   count = ap length e ∙ (rows-length list count ∙ (ap (λ k. k * length list) (sym ec) ∙ ap (λ k. length acts * k) ew));
   live = λ i w b li lw lb.
       let at : slice_index bits (i * width + w) ≡ slice_index (slice_index_or list w []) i =
-          ap (λ z. slice_index z (i * width + w)) e
-          ∙ (ap (λ k. slice_index (rows_below list count) (i * k + w)) (sym ew) ∙ row-at list count i w (omega (arith, li, ec)) (omega (arith, lw, ew))) in
+      ap (λ z. slice_index z (i * width + w)) e
+      ∙ (ap (λ k. slice_index (rows_below list count) (i * k + w)) (sym ew) ∙ row-at list count i w (omega (arith, li, ec)) (omega (arith, lw, ew))) in
       subst (λ x. (bit_at x b ≡ 1) ↔ columns.IsLive acts (64 * w + b) i) (sym at) ((all w (omega (arith, lw, ew))).1 i b li lb);
 }
 

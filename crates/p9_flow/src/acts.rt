@@ -100,11 +100,7 @@ fn act_of(candidates: &[bool], form: Option<Form>) -> Act
 }
 
 /// What each instruction does, as far as the candidates go.
-pub(crate) fn acts(
-    alloc: Global,
-    code: &[Abs],
-    candidates: &[bool],
-) -> Result<Vec<Act>, NoMemory>
+pub(crate) fn acts(alloc: Global, code: &[Abs], candidates: &[bool]) -> Result<Vec<Act>, NoMemory>
     ensures { IfOk result (λ acts. acts.items ≡ map (λ a. act_of candidates.now (decoded a)) code.now) }
 {
     let acts = code

@@ -6,5 +6,7 @@ mod candidates;
 mod columns;
 mod order;
 mod rows;
+#[cfg(test)]
+mod tests;
 
 pub use rows::{Rows, live};

@@ -32,12 +32,7 @@ fn words_for(autos: &[u32]) -> Result<u32, NoMemory>
     }
 }
 
-fn columns(
-    alloc: Global,
-    acts: &[Act],
-    order: &[u32],
-    width: u32,
-) -> Result<Vec<Column>, NoMemory>
+fn columns(alloc: Global, acts: &[Act], order: &[u32], width: u32) -> Result<Vec<Column>, NoMemory>
     requires { IsOrder (length acts.now) order.now }
     ensures count { IfOk result (λ columns. length columns.items ≡ width) }
     ensures columns { IfOk result (λ columns. AreColumns acts.now columns.items) }
