@@ -18,7 +18,7 @@ use Rattle.p9_flow.specs.Acts.{automatic_of, read_of, written_of, jump_of, kept,
 use Rattle.p9_flow.specs.Columns.{GoesTo}
 use Rattle.p9_flow.specs.Columns as columns
 
-eqb-same : (n : ℕ) → (n == n) ≡ true
+pub eqb-same : (n : ℕ) → (n == n) ≡ true
 eqb-same n = go (eqb_tells n n)
   where
     go : (((n == n) ≡ true) × (n ≡ n)) ⊎ (((n == n) ≡ false) × (n ≢ n)) → (n == n) ≡ true
@@ -61,7 +61,7 @@ reads-is v (forms.CallRegister a) = (λ h. absurd (false≢true h), λ h. cc)
 reads-is v forms.Return = (λ h. absurd (false≢true h), λ h. cc)
 reads-is v forms.SystemCall = (λ h. absurd (false≢true h), λ h. cc)
 
-writes-is : (v : ℕ) (form : Form) → (writes v form ≡ true) ↔ (written_of form ≡ Some v)
+pub writes-is : (v : ℕ) (form : Form) → (writes v form ≡ true) ↔ (written_of form ≡ Some v)
 writes-is v (forms.Store w from a) = (is-automatic v a, automatic-is v a)
 writes-is v (forms.Load w a to) = (λ h. absurd (false≢true h), λ h. cc)
 writes-is v (forms.SetAddress a to) = (λ h. absurd (false≢true h), λ h. cc)
@@ -81,7 +81,7 @@ writes-is v (forms.CallRegister a) = (λ h. absurd (false≢true h), λ h. cc)
 writes-is v forms.Return = (λ h. absurd (false≢true h), λ h. cc)
 writes-is v forms.SystemCall = (λ h. absurd (false≢true h), λ h. cc)
 
-jumps-is : (j : ℕ) (form : Form) → (goes_to j form ≡ true) ↔ (jump_of form ≡ Some j)
+pub jumps-is : (j : ℕ) (form : Form) → (goes_to j form ≡ true) ↔ (jump_of form ≡ Some j)
 jumps-is j (forms.BranchPair k a b l) = (λ h. ap (λ z. Some z) (eqb-true l j h), λ h. let e : l ≡ j = cc in ap (λ z. z == j) e ∙ eqb-same j)
 jumps-is j (forms.BranchSign k a l) = (λ h. ap (λ z. Some z) (eqb-true l j h), λ h. let e : l ≡ j = cc in ap (λ z. z == j) e ∙ eqb-same j)
 jumps-is j (forms.Jump l) = (λ h. ap (λ z. Some z) (eqb-true l j h), λ h. let e : l ≡ j = cc in ap (λ z. z == j) e ∙ eqb-same j)

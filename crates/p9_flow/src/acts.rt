@@ -37,7 +37,8 @@ fn read_of(form: Form) -> Option<u32>
     }
 }
 
-fn written_of(form: Form) -> Option<u32>
+/// The automatic that a form writes.
+pub fn written_of(form: Form) -> Option<u32>
     ensures { result ≡ written_of form }
 {
     match form {
@@ -46,7 +47,8 @@ fn written_of(form: Form) -> Option<u32>
     }
 }
 
-fn jump_of(form: Form) -> Option<u32>
+/// The label that a form may jump to.
+pub fn jump_of(form: Form) -> Option<u32>
     ensures { result ≡ jump_of form }
 {
     match form {
@@ -57,7 +59,8 @@ fn jump_of(form: Form) -> Option<u32>
     }
 }
 
-fn falls(form: Form) -> bool
+/// Whether control may go from a form to the next instruction.
+pub fn falls(form: Form) -> bool
     ensures { result ≡ falls form }
 {
     match form {

@@ -95,8 +95,9 @@ fn candidates_of(alloc: Global, autos: &[u32], code: &[Abs]) -> Result<Vec<bool>
     Ok(candidates)
 }
 
-/// Of each automatic whether it is a candidate.
-pub(crate) fn candidates(alloc: Global, f: &AFunction) -> Result<Vec<bool>, NoMemory>
+/// Of each automatic whether it is a candidate for a register: it has at most 4 bytes, its address
+/// isn't taken, and each access is to the whole of it.
+pub fn register_candidates(alloc: Global, f: &AFunction) -> Result<Vec<bool>, NoMemory>
     ensures { IfOk result (λ candidates. (v : ℕ) → slice_index_or candidates.items v false ≡ is_candidate f.now v) }
 {
     let candidates = candidates_of(alloc, &f.autos.list, &f.code.list)?;

@@ -9,4 +9,6 @@ mod rows;
 #[cfg(test)]
 mod tests;
 
+pub use acts::{falls, jump_of, written_of};
+pub use candidates::register_candidates;
 pub use rows::{Rows, live};

@@ -6,7 +6,7 @@ ghost use Rattle.p9_flow.specs.Columns.{IsOrder};
 ghost use Rattle.p9_flow.specs.Tables.{AreColumns, AreRows, rows_below};
 
 use crate::acts::{Act, acts};
-use crate::candidates::candidates;
+use crate::candidates::register_candidates;
 use crate::columns::{Column, live_column};
 use crate::order::postorder;
 use p9_abs::AFunction;
@@ -83,7 +83,7 @@ pub fn live(alloc: Global, f: &AFunction) -> Result<Rows, NoMemory>
     ensures { IfOk result (λ rows. AreLiveRows f.now rows) }
 {
     let width = words_for(&f.autos.list)?;
-    let candidates = candidates(alloc, f)?;
+    let candidates = register_candidates(alloc, f)?;
     let acts = acts(alloc, &f.code.list, &candidates)?;
     let bits = bits_of(alloc, &acts, width)?;
     Ok(Rows { width, bits })

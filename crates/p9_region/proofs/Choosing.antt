@@ -137,7 +137,7 @@ at-home [] r h e = cc
 at-home (x ∷ xs) zero h e = ap (λ z. Some z) e
 at-home (x ∷ xs) (suc r) h e = at-home xs r h e
 
-find-region : (rs : List Region) (r i : ℕ) → Contains (points_of rs r) i → (b : Region) × (slice_get rs r ≡ Some b) × Contains b.points i
+pub find-region : (rs : List Region) (r i : ℕ) → Contains (points_of rs r) i → (b : Region) × (slice_get rs r ≡ Some b) × Contains b.points i
 find-region [] r i c = absurd (omega (arith, c.1))
 find-region (x ∷ xs) zero i c = (x, refl, c)
 find-region (x ∷ xs) (suc r) i c = find-region xs r i c

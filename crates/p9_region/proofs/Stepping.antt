@@ -1,5 +1,5 @@
 -- One region's choice, by its rank.
-use Rattle.std.proofs.Common.{ℕ, ◌+◌, ◌-◌, ◌^◌, ◌≡◌, ◌≢◌, ◌≤◌, ◌<◌, Bool, true, Option, Some, refl, sym, ap, ◌∙◌, subst, arith, List, [], length, slice_get, slice_index, slice_index_or, slice_set, get_or, All, Contains}
+use Rattle.std.proofs.Common.{ℕ, ◌+◌, ◌-◌, ◌^◌, ◌≡◌, ◌≢◌, ◌≤◌, ◌<◌, Bool, true, Option, Some, None, zero, suc, take, drop, replicate, ◌++◌, map, refl, sym, ap, ◌∙◌, subst, arith, List, [], length, slice_get, slice_index, slice_index_or, slice_set, get_or, All, Contains}
 use Rattle.std.specs.Int.{bit_at}
 use Rattle.std.proofs.lemmas.Option.{slice_get-get_or}
 use Rattle.std.proofs.lemmas.List.{length-map}
@@ -11,7 +11,10 @@ use Rattle.std.specs.Option.{IfSome}
 use Rattle.p9_region.specs.Costs.{IsRanking, RanksBy, gaps_of, order_of}
 use Rattle.p9_region.specs.Masks.{IsChosen}
 use Rattle.p9_region.specs.Greedy.{points_in, points_of, IsGreedy, AreWithin, AreOrdered}
-use Rattle.p9_region.proofs.Choosing.{greedy-next, settled-by-order}
+use Rattle.std.proofs.lemmas.List.Elements.{All-same, All-map}
+use Rattle.std.proofs.lemmas.Nat.Bits.{bit_at-zero}
+use Rattle.std.proofs.Math.Seq.{take-append_seam}
+use Rattle.p9_region.proofs.Choosing.{greedy-first, greedy-next, settled-by-order, find-region}
 use Rattle.p9_region.proofs.Ranking.{gap-at, order-at}
 
 abbrev Rank : Type 0
@@ -78,3 +81,19 @@ ranking-settles f rs ranking homes used r n range g =
 
     below : (m : ℕ) → m < length (order_of ranking) → m < length ranking
     below m l = omega (arith, same, l)
+
+-- Before the first choice and after the last
+
+zeros : (n i : ℕ) → slice_index (replicate n 0) i ≡ 0
+zeros zero i = refl
+zeros (suc n) zero = refl
+zeros (suc n) (suc i) = zeros n i
+
+pub greedy-start : (rs : List Region) (gaps order used : List ℕ) (homes : List (Option ℕ)) (n : ℕ) → used ≡ replicate n 0 → IsGreedy rs gaps order homes used 0
+greedy-start rs gaps order used homes n e = greedy-first rs gaps order used homes (λ i g. ap (λ z. bit_at z g) (ap (λ z. slice_index z i) e ∙ zeros n i) ∙ bit_at-zero g)
+
+pub range-start : (rs : List Region) (homes : List (Option ℕ)) → homes ≡ map (λ r. None) rs → All (λ home. IfSome home IsHome) homes
+range-start rs homes e = All-same (λ home. IfSome home IsHome) homes (map (λ r. None) rs) e (All-map (λ home. IfSome home IsHome) (λ r. None) rs (λ k d l. tt))
+
+pub taken-back : {X : Type 0} (new items : List X) (n : ℕ) → n ≡ length new → take n (new ++ drop (length new) items) ≡ new
+taken-back new items n e = ap (λ k. take k (new ++ drop (length new) items)) e ∙ take-append_seam new (drop (length new) items)

@@ -1,19 +1,19 @@
 // Homes of regions.
 
-ghost use Rattle.std.specs.Prelude.{◌≡◌, ◌<◌, ◌≤◌, ℕ, All, IfOk, IfSome, length};
+ghost use Rattle.std.specs.Prelude.{◌≡◌, ◌<◌, ◌≤◌, ℕ, All, IfOk, IfSome, map, length};
 ghost use Rattle.p9_abs.specs.Regions.{IsRegion, AreRegions, IsHome, AreSettled};
 ghost use Rattle.p9_region.specs.Costs.{gaps_of, order_of};
 ghost use Rattle.p9_region.specs.Greedy.{IsGreedy, AreWithin, AreOrdered};
 
 use crate::masks::choose;
 use crate::ranks::ranking;
-use p9_abs::{AFunction, Homes, Region, Regions};
+use p9_abs::{AFunction, Abs, Homes, Region, Regions};
 use p9_base::NoMemory;
 use std::alloc::Global;
 
 // Gives each region in its turn the first home that no conflicting one has, unless it saves nothing.
 fn choose_all(
-    ranking: &[(u64, usize)],
+    ranking: &[(u64, u32)],
     regions: &[Region],
     used: &mut [u32],
     homes: &mut [Option<u8>],
@@ -28,25 +28,32 @@ fn choose_all(
 {
     for rank in ranking {
         let (gap, number) = *rank;
-        let region = &regions[number];
+        let region = &regions[number as usize];
         let points = &region.points;
-        homes[number] = choose(gap < u64::MAX, &points.list, used);
+        homes[number as usize] = choose(gap < u64::MAX, &points.list, used);
     }
+}
+
+fn no_homes(alloc: Global, regions: &[Region]) -> Result<Vec<Option<u8>>, NoMemory>
+    ensures { IfOk result (λ homes. homes.items ≡ map (λ r. None) regions.now) }
+{
+    let homes = regions.iter().map(|_| None).collect(alloc)?;
+    Ok(homes)
 }
 
 fn homes_of(
     alloc: Global,
     f: &AFunction,
+    code: &[Abs],
     regions: &[Region],
-    count: usize,
 ) -> Result<Vec<Option<u8>>, NoMemory>
     requires each { All (IsRegion f.now) regions.now }
-    requires points { AreWithin count regions.now }
+    requires points { AreWithin (length code.now) regions.now }
     ensures { IfOk result (λ homes. AreSettled f.now regions.now homes.items) }
 {
     let ranking = ranking(alloc, f, regions)?;
-    let mut used = vec![in alloc; 0u32; count]?;
-    let mut homes = vec![in alloc; None; regions.len()]?;
+    let mut used = vec![in alloc; 0u32; code.len()]?;
+    let mut homes = no_homes(alloc, regions)?;
     choose_all(&ranking, regions, &mut used, &mut homes);
     Ok(homes)
 }
@@ -57,6 +64,6 @@ pub fn assign(alloc: Global, f: &AFunction, regions: &Regions) -> Result<Homes, 
     requires { AreRegions f.now regions.now }
     ensures { IfOk result (λ homes. AreSettled f.now regions.now homes) }
 {
-    let list = homes_of(alloc, f, &regions.list, f.code.list.len())?;
+    let list = homes_of(alloc, f, &f.code.list, &regions.list)?;
     Ok(Homes { list })
 }

@@ -14,13 +14,16 @@ fn unsorted(
     alloc: Global,
     f: &AFunction,
     regions: &[Region],
-) -> Result<Vec<(u64, usize)>, NoMemory>
+) -> Result<Vec<(u64, u32)>, NoMemory>
     requires { All (IsRegion f.now) regions.now }
     ensures { IfOk result (λ ranks. AreRanks f.now regions.now (length regions.now) ranks.items) }
 {
+    if regions.len() >= 1 << 32 {
+        return Err(NoMemory);
+    }
     let mut ranks = Vec::new(alloc);
-    for number in 0..regions.len() {
-        let saved = cost(f, &regions[number]);
+    for number in 0..regions.len() as u32 {
+        let saved = cost(f, &regions[number as usize]);
         ranks.push((u64::MAX - saved, number))?;
     }
     Ok(ranks)
@@ -31,7 +34,7 @@ pub(crate) fn ranking(
     alloc: Global,
     f: &AFunction,
     regions: &[Region],
-) -> Result<Vec<(u64, usize)>, NoMemory>
+) -> Result<Vec<(u64, u32)>, NoMemory>
     requires { All (IsRegion f.now) regions.now }
     ensures { IfOk result (λ ranking. IsRanking f.now regions.now ranking.items) }
 {

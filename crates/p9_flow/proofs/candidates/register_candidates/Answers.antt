@@ -1,7 +1,7 @@
 use Rattle.std.proofs.Common.{◌∙◌, ap}
 use Rattle.p9_abs.specs.declared.instructions.AFunction.{AFunction}
 use Rattle.p9_flow.proofs.Barring.{fit-all}
-use Rattle.p9_flow.proofs.candidates.candidates.Goals as goal
+use Rattle.p9_flow.proofs.candidates.register_candidates.Goals as goal
 
 pub returns : goal.returns
 returns c =
