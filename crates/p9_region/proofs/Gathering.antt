@@ -1,5 +1,5 @@
 -- The regions of all automatics.
-use Rattle.std.proofs.Common.{ℕ, suc, ◌+◌, ◌*◌, ◌/◌, ◌%◌, ◌≡◌, ◌↔◌, ◌⊎◌, inl, inr, ◌≤◌, ◌<◌, Bool, true, false, Some, None, Option, refl, sym, ap, ◌∙◌, subst, arith, List, [], length, slice_get, slice_index, slice_index_or, map}
+use Rattle.std.proofs.Common.{ℕ, suc, ◌+◌, ◌*◌, ◌/◌, ◌%◌, ◌≡◌, ◌↔◌, ◌⊎◌, inl, inr, ◌≤◌, ◌<◌, Bool, true, false, Some, None, Option, refl, sym, ap, ◌∙◌, subst, arith, List, [], ◌++◌, length, slice_get, slice_index, slice_index_or, map}
 use Rattle.std.specs.Int.{bit_at}
 use Rattle.std.proofs.lemmas.Bool.{false≢true, true≢false}
 use Rattle.std.proofs.lemmas.Option.{slice_get_within}
@@ -12,7 +12,9 @@ use Rattle.p9_abs.specs.Regions.{AreRegions}
 use Rattle.p9_flow.specs.declared.rows.Rows.{Rows}
 use Rattle.p9_flow.specs.Rows.{words_for, AreLiveRows}
 use Rattle.p9_region.specs.declared.steps.Step.{Step}
-use Rattle.p9_region.specs.Picking.{step_of}
+use Rattle.p9_region.specs.declared.classes.Edge.{Edge}
+use Rattle.p9_region.specs.Labels.{AreClasses}
+use Rattle.p9_region.specs.Picking.{step_of, AreEdges, groups}
 use Rattle.p9_region.specs.Finding.{points_in, AddsRegions, AddsIf, AreRegionsBelow}
 use Rattle.p9_region.proofs.Telling.{are-points, adjacent-leads, leads-adjacent}
 use Rattle.p9_region.proofs.Joining.{way-joined, joined-way}
@@ -73,3 +75,13 @@ all-regions f n candidates rs e exact r = record {
     below : (v : ℕ) → is_candidate f v ≡ true → (v < length candidates) ⊎ (length candidates ≤ v) → v < n
     below v c (inl l) = omega (arith, l, e)
     below v c (inr l) = absurd (false≢true (sym (get_or-eq_default candidates false l) ∙ (exact v ∙ c)))
+
+pub adds-regions : (steps : List Step) (bits : List ℕ) (width v : ℕ) (points : List ℕ) (edges same : List Edge) (labels also : List ℕ) (old new : List Region) → points ≡ points_in steps bits width v → same ≡ edges →
+    AreEdges steps bits width v points (length points) edges → AreClasses same (length points) labels → also ≡ labels → new ≡ old ++ groups v points also (length points) → AddsRegions steps bits width v old new
+adds-regions steps bits width v points edges same labels also old new ep es h c el a = record {
+  edges = same;
+  labels = labels;
+  joined = subst (λ z. AreEdges steps bits width v z (length z) same) ep (subst (AreEdges steps bits width v points (length points)) (sym es) h);
+  classes = subst (λ z. AreClasses same (length z) labels) ep c;
+  added = a ∙ (ap (λ z. old ++ groups v points z (length points)) el ∙ ap (λ z. old ++ groups v z labels (length z)) ep);
+}

@@ -199,9 +199,6 @@ module _ (f : AFunction) (v : ℕ) (points labels : List ℕ) (edges : List Edge
     every = λ u i l c p. every u i l c p (eqb_tells u v);
   }
     where
-      abbrev both : List Region
-      both = old ++ groups v points labels (length points)
-
       left : (i : ℕ) (d : Region) → i < length old → get_or (old ++ groups v points labels (length points)) i d ≡ get_or old i d
       left i d l = get_or_append_left old (groups v points labels (length points)) d i l
 
@@ -229,9 +226,6 @@ module _ (f : AFunction) (v : ℕ) (points labels : List ℕ) (edges : List Edge
           let n = length-append old (groups v points labels (length points)) in
           pair i j d l (omega (arith, h, n)) (order i (length old)) (order j (length old))
 
-      abbrev Found : ℕ → ℕ → Type 0
-      Found u i = (k : ℕ) × (r : Region) × (slice_get (old ++ groups v points labels (length points)) k ≡ Some r) × (r.auto ≡ u) × Contains r.points i
-
       get-left : (xs ys : List Region) (k : ℕ) (r : Region) → slice_get xs k ≡ Some r → slice_get (xs ++ ys) k ≡ Some r
       get-left [] ys k r q = cc
       get-left (x ∷ xs) ys zero r q = q
@@ -245,7 +239,8 @@ module _ (f : AFunction) (v : ℕ) (points labels : List ℕ) (edges : List Edge
           slice_get-get_or (xs ++ ys) (length xs + k) r (omega (arith, n, l))
           ∙ ap (λ z. Some z) (at ∙ (ap (λ m. get_or ys m r) (let s : length xs + k - length xs ≡ k = omega arith in s) ∙ get_or_from_slice_get ys k r r q))
 
-      every : (u i : ℕ) → u < suc v → is_candidate f u ≡ true → IsPoint f u i → Tells u v → Found u i
+      every : (u i : ℕ) → u < suc v → is_candidate f u ≡ true → IsPoint f u i → Tells u v →
+          (k : ℕ) × (r : Region) × (slice_get (old ++ groups v points labels (length points)) k ≡ Some r) × (r.auto ≡ u) × Contains r.points i
       every u i l c p (inl t) =
           let w = mine-has i (subst (λ z. IsPoint f z i) t.1 p) in
           (length old + w.0, get_or (groups v points labels (length points)) w.0 (region_at v points labels 0), get-right old (groups v points labels (length points)) w.0 _ w.2, w.3 ∙ sym t.1, w.4)
@@ -255,7 +250,7 @@ module _ (f : AFunction) (v : ℕ) (points labels : List ℕ) (edges : List Edge
 
 -- an automatic that is no candidate adds none
 pub regions-same : (f : AFunction) (v : ℕ) (old new : List Region) → is_candidate f v ≡ false → new ≡ old → AreRegionsBelow f v old → AreRegionsBelow f (suc v) new
-regions-same f v old new no e before = subst (λ z. AreRegionsBelow f (suc v) z) (sym e) record {
+regions-same f v old new missing e before = subst (λ z. AreRegionsBelow f (suc v) z) (sym e) record {
   each = before.each;
   below = All-weaker (λ r. r.auto < v) (λ r. r.auto < suc v) (λ x l. omega (arith, l)) old before.below;
   ordered = before.ordered;
@@ -263,5 +258,5 @@ regions-same f v old new no e before = subst (λ z. AreRegionsBelow f (suc v) z)
 }
   where
     by : (u i : ℕ) → u < suc v → is_candidate f u ≡ true → IsPoint f u i → Tells u v → (k : ℕ) × (r : Region) × (slice_get old k ≡ Some r) × (r.auto ≡ u) × Contains r.points i
-    by u i l c p (inl t) = absurd (false≢true (sym no ∙ subst (λ z. is_candidate f z ≡ true) t.1 c))
+    by u i l c p (inl t) = absurd (false≢true (sym missing ∙ subst (λ z. is_candidate f z ≡ true) t.1 c))
     by u i l c p (inr t) = before.every u i (omega (arith, l, t.1)) c p

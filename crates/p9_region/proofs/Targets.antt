@@ -10,6 +10,7 @@ use Rattle.std.proofs.lemmas.List.{get_or_append_left, get_or-append_right}
 use Rattle.std.proofs.lemmas.List.Sorted.{searched}
 use Rattle.p9_region.specs.declared.steps.Step.{Step}
 use Rattle.p9_region.specs.declared.classes.Edge.{Edge}
+use Rattle.p9_region.specs.Labels.{AreWithinNumber}
 use Rattle.p9_region.specs.Picking.{GoesOn, live_bit, AreAdjacent, AreEdges}
 use Rattle.p9_region.specs.Finding.{IsPlace, IsTarget, successor, edge_list}
 
@@ -89,7 +90,7 @@ module _ (steps : List Step) (bits : List ℕ) (width v : ℕ) (points : List �
   Each es = (x : ℕ) (e : Edge) → slice_get es x ≡ Some e → IsGood e
 
   each-append : (xs ys : List Edge) → Each xs → Each ys → Each (xs ++ ys)
-  each-append [] ys hx hy = hy
+  each-append [] ys hx hy x e q = hy x e q
   each-append (z ∷ xs) ys hx hy zero e q = hx 0 e q
   each-append (z ∷ xs) ys hx hy (suc x) e q = each-append xs ys (λ k d p. hx (suc k) d p) hy x e q
 
@@ -116,7 +117,7 @@ module _ (steps : List Step) (bits : List ℕ) (width v : ℕ) (points : List �
   Has es k m = (x : ℕ) × (e : Edge) × (slice_get es x ≡ Some e) × (e.from ≡ k) × (e.to ≡ m)
 
   has-left : (xs ys : List Edge) (k m : ℕ) → Has xs k m → Has (xs ++ ys) k m
-  has-left xs ys k m (x, e, q, r) = (x, e, get-left xs x q, r)
+  has-left xs ys k m (x, e, q, r, s) = (x, e, get-left xs x q, r, s)
     where
       get-left : (zs : List Edge) (x : ℕ) → slice_get zs x ≡ Some e → slice_get (zs ++ ys) x ≡ Some e
       get-left [] x q = cc
@@ -150,3 +151,7 @@ module _ (steps : List Step) (bits : List ℕ) (width v : ℕ) (points : List �
       by k m lk lm a (inl t) =
           subst (λ z. Has ((edges ++ edge_list n next) ++ edge_list n jump) z m) (sym t.1) (last m lm (subst (λ z. AreAdjacent steps bits width v points z m) t.1 a))
       by k m lk lm a (inr t) = has-left (edges ++ edge_list n next) (edge_list n jump) k m (has-left edges (edge_list n next) k m (before.every k m (omega (arith, lk, t.1)) lm a))
+
+pub edges-within : (steps : List Step) (bits : List ℕ) (width v : ℕ) (points : List ℕ) (n : ℕ) (edges same : List Edge) → same ≡ edges → AreEdges steps bits width v points n edges → AreWithinNumber same (length points)
+unfolding AreWithinNumber
+edges-within steps bits width v points n edges same q es x e g = let w = es.each x e (ap (λ z. slice_get z x) (sym q) ∙ g) in (w.0, w.1)

@@ -11,6 +11,8 @@ mod masks;
 mod points;
 mod ranks;
 mod steps;
+#[cfg(test)]
+mod tests;
 
 pub use costs::cost;
 pub use finding::regions;
