@@ -28,3 +28,17 @@ pub returns : goal.returns
 returns c =
     adds-regions c.args.steps.now c.args.bits.now c.args.width c.args.v c.args.points.now c.in_ok-edges.edges.items c.deref.result.now c.in_ok-labels.labels.items c.deref-2.result.now c.args.regions.now.items _
     c.requires.points c.deref.ensures.value c.in_ok-edges.ensures c.in_ok-labels.ensures c.deref-2.ensures.value c.in_ok-add_groups.ensures
+
+pub overflow_cast-points : goal.overflow_cast-points
+overflow_cast-points c =
+    let n = picked-length (point_bit c.args.steps.now c.args.bits.now c.args.width c.args.v) (length c.args.steps.now) in
+    let e = ap length c.requires.points in
+    let f = c.requires.few in
+    omega (arith, n, e, f)
+
+pub add_groups-requires-clause-few : goal.add_groups-requires-clause-few
+add_groups-requires-clause-few c =
+    let n = picked-length (point_bit c.args.steps.now c.args.bits.now c.args.width c.args.v) (length c.args.steps.now) in
+    let e = ap length c.requires.points in
+    let f = c.requires.few in
+    omega (arith, n, e, f)
