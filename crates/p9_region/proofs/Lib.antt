@@ -1,0 +1,13 @@
+pub mod Choosing
+pub mod Masking
+pub mod Ranking
+pub mod Costing
+pub mod Stepping
+pub mod Within
+pub mod Merging
+pub mod Picks
+pub mod Telling
+pub mod Joining
+pub mod Grouping
+pub mod Targets
+pub mod Gathering

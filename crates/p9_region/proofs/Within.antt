@@ -1,0 +1,37 @@
+-- The points of regions are instructions of the code.
+use Rattle.std.proofs.Common.{ℕ, zero, suc, ◌+◌, ◌==◌, ◌&&◌, ◌||◌, ◌≡◌, ◌⊎◌, inl, inr, ◌<◌, nat_lt, Bool, true, false, Option, Some, None, option_and_then, refl, sym, ap, ◌∙◌, subst, arith, List, [], ◌∷◌, length, slice_get, All, Contains, get_or}
+use Rattle.std.proofs.lemmas.Bool.{false≢true, and_parts}
+use Rattle.std.proofs.lemmas.Option.{slice_get_within, get_or_from_slice_get}
+use Rattle.std.proofs.lemmas.List.Elements.{All-contains}
+use Rattle.p9_abs.specs.declared.instructions.Abs.{Abs}
+use Rattle.p9_abs.specs.declared.instructions.AFunction.{AFunction}
+use Rattle.p9_abs.specs.declared.regions.Region.{Region}
+use Rattle.p9_abs.specs.declared.forms.Form.{Form}
+use Rattle.p9_abs.specs.Forms.{decoded}
+use Rattle.p9_abs.specs.Automatics.{form_at, holds_of, flows, falls, goes_to, reads, writes, IsReadAlong, IsLive}
+use Rattle.p9_abs.specs.Regions.{IsPoint, IsRegion}
+use Rattle.p9_region.specs.Greedy.{points_of, AreWithin}
+use Rattle.p9_region.proofs.Choosing.{find-region}
+
+holds-within : (code : List Abs) (i : ℕ) (test : Form → Bool) → holds_of test (form_at code i) ≡ true → i < length code
+holds-within code i test h = by (slice_get code i) refl
+  where
+    by : (o : Option Abs) → slice_get code i ≡ o → i < length code
+    by None e = absurd (false≢true (sym (ap (λ o. holds_of test (option_and_then decoded o)) e) ∙ h))
+    by (Some a) e = slice_get_within code i a e
+
+way-within : (f : AFunction) (v i : ℕ) (way : List ℕ) → IsReadAlong f v i way → i < length f.code
+way-within f v i [] h = holds-within f.code i (reads v) h
+way-within f v i (j ∷ js) h = holds-within f.code i (λ form. (falls form && (j == i + 1)) || goes_to j form) (and_parts (nat_lt j (length f.code)) _ h.1).1
+
+pub point-within : (f : AFunction) (v i : ℕ) → IsPoint f v i → i < length f.code
+point-within f v i (inl live) = way-within f v i live.0 live.1
+point-within f v i (inr h) = holds-within f.code i (writes v) h
+
+pub regions-within : (f : AFunction) (rs : List Region) (n : ℕ) → n ≡ length f.code → All (IsRegion f) rs → AreWithin n rs
+unfolding AreWithin
+regions-within f rs n e all r i c =
+    let w = find-region rs r i c in
+    let region : IsRegion f w.0 = subst (IsRegion f) (get_or_from_slice_get rs r w.0 w.0 w.1) (all r w.0 (slice_get_within rs r w.0 w.1)) in
+    let l : i < length f.code = point-within f w.0.auto i (All-contains (IsPoint f w.0.auto) w.0.points i region.points w.2) in
+    omega (arith, l, e)
