@@ -1,21 +1,67 @@
 // The command `run`.
-ghost use Rattle.std.specs.Prelude.{◌≡◌, ◌≤◌, [], length, All, IfOk};
+ghost use Rattle.std.specs.Prelude.{◌≡◌, ◌≤◌, [], length, All, MatchOption, Some, None};
+ghost use Rattle.std.specs.List.{list_all};
 ghost use Rattle.p9_base.specs.Calls.{Call};
 ghost use Rattle.p9_base.specs.Outside.{FileCall};
 ghost use Rattle.p9_first.specs.Form.{IsFile};
 ghost use Rattle.p9_form.specs.Items.{items_of};
 ghost use Rattle.p9_form.specs.Sharing.{IsSmall};
+ghost use Rattle.p9_suite.specs.CommandLine.{is_source};
 ghost use Rattle.p9_suite.specs.Scene.{doing, objects};
 ghost use Rattle.p9_suite.specs.Stages.{Makes, MakesOnStore};
-ghost use Rattle.p9_suite.specs.commands.Run.{Links, LinksAndRuns, ReadsForm, ReadsForms, RunStages, TakesForm, WritesAndRuns};
+ghost use Rattle.p9_suite.specs.commands.Run.{Links, LinksAndRuns, ReadsForm, ReadsForms, RunStages, TakesForm, WritesAndRuns, run_of, run_seen};
 
 use crate::answer::{Answer, Refusal};
 use crate::stages::{read_file, run_file, write_file};
+use crate::words::is_source;
 use p9_base::{Bytes, Files, Name, Sink, Source};
 use p9_form::{File, FileList};
+use p9_headline::DEFAULT_BUDGET;
 use p9_share::join;
 use p9_straight::compile;
 use std::alloc::Global;
+
+/// The files are compiled, the executable is written by the name `output`, and simulated for at most
+/// `budget` instructions.
+#[derive(Clone, Copy)]
+pub(crate) struct Run<'a> {
+    pub(crate) budget: u32,
+    pub(crate) output: &'a [u8],
+    pub(crate) files: &'a [Name],
+    ghost few: { length files.now ≤ 16 },
+}
+
+/// `run` takes so many files at most.
+const MOST_FILES: usize = 16;
+
+// Whether all of these words name C sources.
+fn are_sources(files: &[Name]) -> bool
+    ensures { result ≡ list_all is_source files.now }
+{
+    let mut rest = files;
+    while let [file, after @ ..] = rest {
+        if !is_source(&file.list) {
+            return false;
+        }
+        rest = after;
+    }
+    true
+}
+
+/// The words behind `run`.
+pub(crate) fn run_of(words: &[Name]) -> Option<Run<'_>>
+    ensures { MatchOption result (run_of words.now ≡ None) (λ run. run_of words.now ≡ Some (run_seen run)) }
+{
+    if 1 <= words.len() && words.len() <= MOST_FILES && are_sources(words) {
+        Some(Run {
+            budget: DEFAULT_BUDGET,
+            output: b"v.out",
+            files: words,
+        })
+    } else {
+        None
+    }
+}
 
 // Takes bytes as a file of the form. A refusal names the file by `name`.
 fn form_of(alloc: Global, name: &Name, bytes: &Bytes) -> Result<File, Refusal>
@@ -101,21 +147,17 @@ fn link_and_run<I: Source, O: Sink, F: Files>(
     write_and_run(alloc, &bytes, output, budget, input, out, files)
 }
 
-/// Compiles files, writes the executable by the name `output`, and simulates it for at most `budget`
-/// instructions.
+/// Compiles files, writes the executable, and simulates it.
 pub(crate) fn run<I: Source, O: Sink, F: Files>(
     alloc: Global,
-    names: &[Name],
-    output: &[u8],
-    budget: u32,
+    run: Run<'_>,
     input: &mut I,
     out: &mut O,
     files: &mut F,
 ) -> Result<Answer, Refusal>
-    requires { length names.now ≤ 16 }
     ensures { Makes (doing I.did O.did F.did) (objects input.old out.old files.old) (objects input.new out.new files.new)
-        (RunStages (record { budget = budget; output = output.now; files = names.now })) result }
+        (RunStages (run_seen run)) result }
 {
-    let list = read_forms(alloc, names, files)?;
-    link_and_run(alloc, &list, output, budget, input, out, files)
+    let list = read_forms(alloc, run.files, files)?;
+    link_and_run(alloc, &list, run.output, run.budget, input, out, files)
 }
