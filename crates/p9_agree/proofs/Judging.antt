@@ -10,7 +10,7 @@ use Rattle.p9_first.specs.Types as types
 use Rattle.p9_first.specs.Trees.{node, none, more, Syntax, SyntaxRow, row_of}
 use Rattle.p9_first.specs.Form.{is_among, is_variable_name, IsFile}
 use Rattle.p9_first.specs.Modules.{HaveTypes, IsModule}
-use Rattle.p9_first.specs.Typing.{Judged, Has, Breaks, Unknown, Scope, outer, named, judge, judged, judged_parts, judged_nodes, judged_rows, judged_statement, judged_statements, judged_item, judged_items, judged_file, typeless, is_integer, texts_in, texts_in_row, scope_after, system_scope}
+use Rattle.p9_first.specs.Typing.{Judged, Has, Breaks, Unknown, Scope, outer, named, judge, judged, judged_parts, judged_nodes, judged_rows, judged_statement, judged_statements, judged_item, judged_items, judged_file, typeless, common, is_integer, texts_in, texts_in_row, scope_after, system_scope}
 use Rattle.p9_first.proofs.Variables.{IsVariableType}
 use Rattle.p9_form.specs.declared.file.Operand.{Operand}
 use Rattle.p9_form.specs.declared.file.Operand.TheVariants.{Variable, Number}
@@ -79,7 +79,8 @@ module _ (names : List (List ℕ)) (scope : Scope) (good : GoodScope names scope
   operand_has k at (Number n) h = tt
 
   added : (a b : TypeTree) (x y : Meant) (i j : ℕ) → is_integer a ≡ true → is_integer b ≡ true → HasType (judge scope i (kind.Binary operator.Add) (Has a x ∷ Has b y ∷ []))
-  added a b x y i j p q = (_, _, ap (λ c. if c then (if is_integer b then Has _ Nothing else Breaks 18) else Breaks 18) p ∙ ap (λ c. if c then Has _ Nothing else Breaks 18) q)
+  added a b x y i j p q =
+      (common a b, (Nothing, ap (λ c. if c then (if is_integer b then Has (common a b) Nothing else Breaks 18) else Breaks 18) p ∙ ap (λ c. if c then Has (common a b) Nothing else Breaks 18) q))
 
   sum_typed : (k at : ℕ) (left : Operand) (right : Option Operand) → FineOperand (Among names) left → FineIf (Among names) right → HasType (judged scope k (sum_tree at left right))
   sum_typed k at left None h g = let o = operand_typed k at left h in (o.type, o.typed)
@@ -104,14 +105,14 @@ module _ (names : List (List ℕ)) (scope : Scope) (good : GoodScope names scope
   assigned : (i : ℕ) (p q : Judged) → HasType p → HasType q → HasType (judge scope i (kind.Assign None) (p ∷ q ∷ []))
   assigned i p q h g =
       subst (λ x. HasType (judge scope i (kind.Assign None) (x ∷ q ∷ []))) (sym h.1.1)
-      (subst (λ y. HasType (judge scope i (kind.Assign None) (Has h.0 h.1.0 ∷ y ∷ []))) (sym g.1.1) (h.0, Nothing, refl))
+      (subst (λ y. HasType (judge scope i (kind.Assign None) (Has h.0 h.1.0 ∷ y ∷ []))) (sym g.1.1) (h.0, (Nothing, refl)))
 
   -- a call has the result's type
   called : (i : ℕ) (p : Judged) (arguments : List Judged) (result : TypeTree) (parameters : types.TypeRow) (means : Meant) → p ≡ Has (Function result parameters) means → HasType (judge scope i kind.Call (p ∷ arguments))
-  called i p arguments result parameters means e = subst (λ x. HasType (judge scope i kind.Call (x ∷ arguments))) (sym e) (result, Nothing, refl)
+  called i p arguments result parameters means e = subst (λ x. HasType (judge scope i kind.Call (x ∷ arguments))) (sym e) (result, (Nothing, refl))
 
   name_has : (k at : ℕ) (x : List ℕ) (type : TypeTree) (means : Meant) → named scope x ≡ Has type means → AllHave (judged_nodes scope k (leaf (kind.Name x) at))
-  name_has k at x type means e = one_has (named scope x) (type, means, e)
+  name_has k at x type means e = one_has (named scope x) (type, (means, e))
 
   effect_has : (k at : ℕ) (s : Statement) → Fine (Among names) s → AllHave (judged_nodes scope k (effect_tree at s))
   effect_has k at (Assign x left right) h =
@@ -183,8 +184,9 @@ main_has names scope k at None after g v n f = declarations_have names scope k a
 main_has names scope k at (Some ss) after g v n f =
     let inner = outer (codes "main") main_type ∷ scope in
     let good = main_good names scope main_type v g in
-    all_append (judged_statements inner k (statement_trees (at + 6) ss) ++ typeless ∷ []) (typeless ∷ [] ++ judged_items inner (k + texts_in (main_tree at ss)) (declaration_trees (at + main_size ss) after none))
-    (all_append (judged_statements inner k (statement_trees (at + 6) ss)) (typeless ∷ []) (statements_have names inner good k (at + 6) ss f) tt)
+    let statements = judged_statements inner k (statement_trees (at + 6) ss) in
+    all_append ((statements ++ typeless ∷ []) ++ typeless ∷ []) (judged_items inner (k + texts_in (main_tree at ss)) (declaration_trees (at + main_size ss) after none))
+    (all_append (statements ++ typeless ∷ []) (typeless ∷ []) (all_append statements (typeless ∷ []) (statements_have names inner good k (at + 6) ss f) tt) tt)
     (declarations_have names inner (k + texts_in (main_tree at ss)) (at + main_size ss) after none good v n (λ s i h u. tt))
 
 -- A file
@@ -194,7 +196,7 @@ file_has file f =
     declarations_have [] system_scope 0 0 file.before (main_trees (declarations_size file.before) file.main file.after) system_good tt f.before
     (λ scope k g v. main_has (names_behind [] file.before) scope k (declarations_size file.before) file.main file.after g v f.after f.main)
 
-module_from : File → Module
+abbrev module_from : File → Module
 module_from file = record {
   tree = record { items = nodes_from (items_of file); marks = [] };
   tags = record { list = [] };
@@ -204,7 +206,7 @@ module_from file = record {
 }
 
 pub files_have_modules : FilesHaveModules
-files_have_modules file h = (module_from file, is, nodes_are (items_of file))
+files_have_modules file h = (module_from file, (is, nodes_are (items_of file)))
   where
     same : row_of (nodes_from (items_of file)) ≡ items_of file
     same = nodes_are (items_of file)
@@ -212,7 +214,7 @@ files_have_modules file h = (module_from file, is, nodes_are (items_of file))
     is : IsModule (module_from file)
     is = record {
       file = subst IsFile (sym same) h;
-      typed = subst (λ items. HaveTypes (judged_file items) (Rattle.p9_first.specs.Types.types_of (all_types (judged_file (items_of file)))) (Rattle.p9_first.specs.Types.all_meant (all_binds (judged_file (items_of file))))) (sym same) (have_types (judged_file (items_of file)) (file_has file (file_form file h)));
+      typed = subst (λ items. HaveTypes (judged_file items) (types.types_of (all_types (judged_file (items_of file)))) (types.all_meant (all_binds (judged_file (items_of file))))) (sym same) (have_types (judged_file (items_of file)) (file_has file (file_form file h)));
       tags = refl;
       marks = refl;
       statics = refl;

@@ -7,15 +7,14 @@ use Rattle.p9_suite.specs.declared.answer.Answer.{Answer}
 use Rattle.p9_suite.specs.declared.commands.Command as declared
 use Rattle.p9_suite.specs.Scene.{Scene}
 use Rattle.p9_suite.specs.Stages.{Stage}
-use Rattle.p9_suite.specs.commands.Run.{Run, run_of, run_seen, RunStages, RunSays}
-use Rattle.p9_suite.specs.commands.Vi.{Vi, vi_of, vi_seen, ViStages, ViSays}
-
+use Rattle.p9_suite.specs.commands.Run.{Run as RunRequest, run_of, run_seen, RunStages, RunSays}
+use Rattle.p9_suite.specs.commands.Vi.{Vi as ViRequest, vi_of, vi_seen, ViStages, ViSays}
 pub mod Vi
 pub mod Run
 
 pub data Command : Type 0 where
-  RunCommand : Run → Command
-  ViCommand : Vi → Command
+  RunCommand : RunRequest → Command
+  ViCommand : ViRequest → Command
 
 -- the command of the words, where they are one
 abbrev pub command_of : (words : List (List ℕ)) → Option Command

@@ -8,8 +8,8 @@ mod run;
 mod vi;
 
 use crate::answer::{Answer, Refusal};
-use crate::commands::run::{Run, run_of};
-use crate::commands::vi::{Vi, vi_of};
+use crate::commands::run::{Run, compile_and_run, run_of};
+use crate::commands::vi::{Vi, read_and_run, vi_of};
 use p9_base::{Files, Sink, Source, Words};
 use std::alloc::Global;
 
@@ -52,10 +52,12 @@ pub(crate) fn perform<I: Source, O: Sink, F: Files>(
     files: &mut F,
 ) -> Result<Answer, Refusal>
     ensures { Makes (doing I.did O.did F.did) (objects input.old out.old files.old) (objects input.new out.new files.new)
-        (stages (command_seen command)) result }
+        (stages (command_seen command.entry)) result }
 {
     match command {
-        Command::Run(run) => run::run(alloc, run, input, out, files),
-        Command::Vi(vi) => vi::vi(alloc, vi, input, out, files),
+        Command::Run(run) => compile_and_run(
+            alloc, run.files, run.output, run.budget, input, out, files,
+        ),
+        Command::Vi(vi) => read_and_run(alloc, vi.file, vi.budget, input, out, files),
     }
 }

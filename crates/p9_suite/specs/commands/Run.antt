@@ -30,7 +30,7 @@ use Rattle.p9_suite.specs.declared.answer.Answer.{Answer}
 use Rattle.p9_suite.specs.declared.answer.Answer.TheVariants.{Refused}
 use Rattle.p9_suite.specs.declared.answer.Refusal.{Refusal}
 use Rattle.p9_suite.specs.declared.answer.Refusal.TheVariants.{Absent, NotBuilt, Link, Memory}
-use Rattle.p9_suite.specs.declared.commands.run.Run as declared
+use Rattle.p9_suite.specs.declared.commands.run.request.Run as declared
 use Rattle.p9_suite.specs.CommandLine.{is_source}
 use Rattle.p9_suite.specs.Scene.{Scene, IsAnswer, HasPut, held, held_now, left, left_now, has_run}
 use Rattle.p9_suite.specs.Simulation.{RunsFile, IsRunBy, exit_answer}

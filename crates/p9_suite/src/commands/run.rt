@@ -11,7 +11,10 @@ ghost use Rattle.p9_suite.specs.Scene.{doing, objects};
 ghost use Rattle.p9_suite.specs.Stages.{Makes, MakesOnStore};
 ghost use Rattle.p9_suite.specs.commands.Run.{Links, LinksAndRuns, ReadsForm, ReadsForms, RunStages, TakesForm, WritesAndRuns, run_of, run_seen};
 
+mod request;
+
 use crate::answer::{Answer, Refusal};
+pub(crate) use crate::commands::run::request::Run;
 use crate::stages::{read_file, run_file, write_file};
 use crate::words::is_source;
 use p9_base::{Bytes, Files, Name, Sink, Source};
@@ -20,16 +23,6 @@ use p9_headline::DEFAULT_BUDGET;
 use p9_share::join;
 use p9_straight::compile;
 use std::alloc::Global;
-
-/// The files are compiled, the executable is written by the name `output`, and simulated for at most
-/// `budget` instructions.
-#[derive(Clone, Copy)]
-pub(crate) struct Run<'a> {
-    pub(crate) budget: u32,
-    pub(crate) output: &'a [u8],
-    pub(crate) files: &'a [Name],
-    ghost few: { length files.now ≤ 16 },
-}
 
 /// `run` takes so many files at most.
 const MOST_FILES: usize = 16;
@@ -147,17 +140,21 @@ fn link_and_run<I: Source, O: Sink, F: Files>(
     write_and_run(alloc, &bytes, output, budget, input, out, files)
 }
 
-/// Compiles files, writes the executable, and simulates it.
-pub(crate) fn run<I: Source, O: Sink, F: Files>(
+/// Compiles files, writes the executable by the name `output`, and simulates it for at most `budget`
+/// instructions.
+pub(crate) fn compile_and_run<I: Source, O: Sink, F: Files>(
     alloc: Global,
-    run: Run<'_>,
+    names: &[Name],
+    output: &[u8],
+    budget: u32,
     input: &mut I,
     out: &mut O,
     files: &mut F,
 ) -> Result<Answer, Refusal>
+    requires { length names.now ≤ 16 }
     ensures { Makes (doing I.did O.did F.did) (objects input.old out.old files.old) (objects input.new out.new files.new)
-        (RunStages (run_seen run)) result }
+        (RunStages (record { budget = budget; output = output.now; files = names.now })) result }
 {
-    let list = read_forms(alloc, run.files, files)?;
-    link_and_run(alloc, &list, run.output, run.budget, input, out, files)
+    let list = read_forms(alloc, names, files)?;
+    link_and_run(alloc, &list, output, budget, input, out, files)
 }

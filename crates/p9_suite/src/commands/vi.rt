@@ -50,17 +50,18 @@ pub(crate) fn vi_of(words: &[Name]) -> Option<Vi<'_>>
     }
 }
 
-/// Simulates an executable.
-pub(crate) fn vi<I: Source, O: Sink, F: Files>(
+/// Reads an executable and simulates it for at most `budget` instructions.
+pub(crate) fn read_and_run<I: Source, O: Sink, F: Files>(
     alloc: Global,
-    vi: Vi<'_>,
+    file: &Name,
+    budget: u32,
     input: &mut I,
     out: &mut O,
     files: &mut F,
 ) -> Result<Answer, Refusal>
     ensures { Makes (doing I.did O.did F.did) (objects input.old out.old files.old) (objects input.new out.new files.new)
-        (ViStages (vi_seen vi)) result }
+        (ViStages (record { budget = budget; file = file.now })) result }
 {
-    let bytes = read_file(alloc, vi.file, files)?;
-    run_file(alloc, &vi.file.list, &bytes, vi.budget, input, out)
+    let bytes = read_file(alloc, file, files)?;
+    run_file(alloc, &file.list, &bytes, budget, input, out)
 }
