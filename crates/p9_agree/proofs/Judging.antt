@@ -1,5 +1,5 @@
 -- Each node of a file of the form has a type, and so the file has its module.
-use Rattle.std.proofs.Common.{◌≡◌, ℕ, zero, suc, ◌+◌, Bool, true, false, if◌then◌else◌, nat_le, List, [], ◌∷◌, ◌++◌, Option, Some, None, refl, sym, ap, ◌∙◌, subst}
+use Rattle.std.proofs.Common.{◌≡◌, ℕ, ◌+◌, Bool, true, false, if◌then◌else◌, nat_le, List, [], ◌∷◌, ◌++◌, Option, Some, None, refl, sym, ap, ◌∙◌, subst}
 use Rattle.std.specs.Prelude.{codes}
 use Rattle.p9_first.specs.declared.module.Module.{Module}
 use Rattle.p9_first.specs.declared.tree.CBinary.TheVariants as operator
@@ -8,7 +8,7 @@ use Rattle.p9_first.specs.declared.tree.Kind.TheVariants as kind
 use Rattle.p9_first.specs.Types.{TypeTree, Void, Int, UInt, Long, Function, Meant, Nothing}
 use Rattle.p9_first.specs.Types as types
 use Rattle.p9_first.specs.Trees.{node, none, more, Syntax, SyntaxRow, row_of}
-use Rattle.p9_first.specs.Form.{is_among, is_variable_name, IsFile}
+use Rattle.p9_first.specs.Form.{is_variable_name, IsFile}
 use Rattle.p9_first.specs.Modules.{HaveTypes, IsModule}
 use Rattle.p9_first.specs.Typing.{Judged, Has, Breaks, Unknown, Scope, outer, named, judge, judged, judged_parts, judged_nodes, judged_rows, judged_statement, judged_statements, judged_item, judged_items, judged_file, typeless, common, is_integer, texts_in, texts_in_row, scope_after, system_scope}
 use Rattle.p9_first.proofs.Variables.{IsVariableType}
@@ -25,7 +25,7 @@ use Rattle.p9_straight.proofs.SourceForm.{AreNew, names_behind, Among, MainIsFin
 use Rattle.p9_straight.proofs.SourceRun.{FineOperand, FineIf, Fine, AreFine}
 use Rattle.p9_straight.proofs.SourceTyped.{GoodScope, AreVariableNames, declared_good, main_good, system_good}
 use Rattle.p9_agree.proofs.Made.{AllHave, all_types, all_binds, have_types, nodes_from, nodes_are}
-use Rattle.p9_agree.specs.Modules.{IsModuleOf, FilesHaveModules}
+use Rattle.p9_agree.specs.Modules.{FilesHaveModules}
 
 -- it has this type, and some meaning
 abbrev Typed : Judged → TypeTree → Type 0

@@ -1,5 +1,5 @@
 -- The answer of a call.
-use Rattle.std.proofs.Common.{◌≡◌, ℕ, List}
+use Rattle.std.proofs.Common.{◌≡◌, List}
 use Rattle.p9_base.specs.Calls.{Call, Did}
 use Rattle.p9_suite.specs.Answers.{status, message}
 use Rattle.p9_suite.specs.Scene.{Scene}

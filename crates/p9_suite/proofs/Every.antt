@@ -1,11 +1,11 @@
 -- What holds of every command follows from the ways on which it comes to its answer.
-use Rattle.std.proofs.Common.{◌≡◌, ◌≢◌, ◌<◌, ℕ, zero, suc, ◌==◌, Bool, true, false, List, [], ◌∷◌, map, take, Option, Some, None, IfSome, if◌then◌else◌, refl, sym, ◌∙◌, ap, subst, arith}
+use Rattle.std.proofs.Common.{◌≡◌, ◌≢◌, ℕ, zero, suc, ◌==◌, Bool, true, false, List, [], ◌∷◌, take, Option, Some, None, IfSome, if◌then◌else◌, refl, sym, ◌∙◌, ap, subst, arith}
 use Rattle.std.proofs.lemmas.Bool.Decides.{nat_tests}
 use Rattle.std.specs.List.{Contains}
 use Rattle.std.specs.Prelude.{IsSomeAnd}
 use Rattle.p9_base.proofs.CallLemmas.{counts_say}
-use Rattle.p9_base.specs.Calls.{Call, OnFiles, Failing, Input, Out, Store, Objects, Did, CallsEnd, Counts, CountsSay}
-use Rattle.p9_base.specs.Outside.{Held, Rose, FileCall}
+use Rattle.p9_base.specs.Calls.{Call, Failing, Input, Out, Store, Objects, Did, CallsEnd, Counts, CountsSay}
+use Rattle.p9_base.specs.Outside.{Held, Rose}
 use Rattle.p9_suite.proofs.Calls.{IsNew, OfStore, of_store, others_kept, some_and}
 use Rattle.p9_suite.proofs.Calls as calls
 use Rattle.p9_suite.proofs.Meaning.{Meaning, counted}
@@ -13,7 +13,7 @@ use Rattle.p9_suite.proofs.Table.{command_tidy, command_usual}
 use Rattle.p9_suite.proofs.Tidy.{Tidy, take_none}
 use Rattle.p9_suite.specs.Answers.{status}
 use Rattle.p9_suite.specs.Scene.{Scene, held, held_now, failing_at, has_run, is_early, names_written}
-use Rattle.p9_suite.specs.Suite.{Answered, CommandComes, MadeCalls, OfEveryCommand, answer_of, command}
+use Rattle.p9_suite.specs.Suite.{Answered, CommandComes, OfEveryCommand, command}
 use Rattle.p9_suite.specs.commands.{Command, outputs}
 use Rattle.p9_suite.specs.declared.answer.Answer.{Answer}
 use Rattle.p9_suite.specs.declared.answer.Answer.TheVariants.{Usage}

@@ -1,9 +1,9 @@
 -- What is special to the form of C so far.
-use Rattle.std.proofs.Common.{◌≡◌, ◌≢◌, ◌≤◌, ℕ, ◌+◌, Bool, true, false, List, [], ◌∷◌, ◌++◌, map, Option, Some, None, Result, Ok, Err, refl, sym, ◌∙◌, ap, subst}
+use Rattle.std.proofs.Common.{◌≡◌, ◌≢◌, ◌≤◌, ℕ, ◌+◌, true, List, ◌∷◌, ◌++◌, map, Option, Some, None, Result, Ok, refl, sym, ◌∙◌, ap, subst}
 use Rattle.std.specs.Prelude.{IsSomeAnd}
 use Rattle.p9_agree.specs.Depth.{IsNotDeep}
 use Rattle.p9_base.specs.CallBytes.{IsSteady, brought_in, written_in}
-use Rattle.p9_base.specs.Calls.{Call, OnFiles, OnStream, StreamCall, StreamsDid, Objects, Did}
+use Rattle.p9_base.specs.Calls.{Call, OnFiles, OnStream, StreamCall, StreamsDid, Did}
 use Rattle.p9_base.specs.Core.{Core}
 use Rattle.p9_base.specs.Outside.{FileCall, WriteCall}
 use Rattle.p9_base.specs.SystemCalls.{State, state, exit_text}
@@ -29,9 +29,8 @@ use Rattle.p9_suite.proofs.RunCases.{LinkCase, not_linked, ran_out, not_written,
 use Rattle.p9_suite.proofs.HeadlineClause.{modules_sources}
 use Rattle.p9_suite.proofs.Meaning.{Meaning, told_by}
 use Rattle.p9_suite.proofs.Ran as runs
-use Rattle.p9_suite.proofs.Telling.{Brought}
-use Rattle.p9_suite.specs.Answers.{status, refusal_status, link_status, executable_status}
-use Rattle.p9_suite.specs.Scene.{Scene, IsAnswer, left, left_now, has_run}
+use Rattle.p9_suite.specs.Answers.{refusal_status, link_status, executable_status}
+use Rattle.p9_suite.specs.Scene.{Scene, IsAnswer, has_run}
 use Rattle.p9_suite.specs.Simulation.{IsRunBy, exit_answer, answer_by, answer_at}
 use Rattle.p9_suite.specs.Suite.{Answered, Comes, CommandComes, answer_of, command}
 use Rattle.p9_suite.specs.commands.{Command, RunCommand}

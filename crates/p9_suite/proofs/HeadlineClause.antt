@@ -1,5 +1,5 @@
 -- The headline of `run`.
-use Rattle.std.proofs.Common.{◌≡◌, ◌≢◌, ℕ, List, [], ◌∷◌, map, All, Option, Some, None, refl, sym, ◌∙◌, ap, subst}
+use Rattle.std.proofs.Common.{◌≡◌, ◌≢◌, ℕ, List, [], ◌∷◌, map, All, Some, refl, sym, ◌∙◌, ap, subst}
 use Rattle.std.proofs.lemmas.List.Elements.{All-cons, All-nil}
 use Rattle.p9_agree.proofs.Agreement.{files_join_as_sources}
 use Rattle.p9_agree.specs.Modules.{IsModuleOf, AreModulesOf}
@@ -21,10 +21,10 @@ use Rattle.p9_suite.proofs.Exclusion.{absent_files, formless_files, same_sources
 use Rattle.p9_suite.proofs.Meaning.{Meaning}
 use Rattle.p9_suite.proofs.RunClause.{first_map, run_answer}
 use Rattle.p9_suite.proofs.Told.{if_held}
-use Rattle.p9_suite.specs.Scene.{Scene, IsAnswer, held}
+use Rattle.p9_suite.specs.Scene.{Scene, IsAnswer}
 use Rattle.p9_suite.specs.Suite.{Answered, command}
 use Rattle.p9_suite.specs.commands.{RunCommand}
-use Rattle.p9_suite.specs.commands.Run.{Run, IsUnit, AreUnits, KeepsUnion, Headline, AreFiles, IsAbsent, IsFormless, RunAnswer, at_absent, at_formless, at_refused, at_run}
+use Rattle.p9_suite.specs.commands.Run.{Run, AreUnits, KeepsUnion, Headline, AreFiles, IsAbsent, IsFormless, RunAnswer, at_absent, at_formless, at_refused, at_run}
 use Rattle.p9_suite.specs.declared.answer.Answer.TheVariants.{Refused}
 use Rattle.p9_suite.specs.declared.answer.Refusal.TheVariants.{Absent, NotBuilt}
 

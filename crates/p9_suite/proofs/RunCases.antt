@@ -1,6 +1,5 @@
 -- The ways on which `run` comes to its result, each with its calls.
 use Rattle.std.proofs.Common.{◌≡◌, ◌≢◌, ℕ, List, [], ◌∷◌, ◌++◌, map, take, Option, Result, Ok, Err, refl, sym, subst}
-use Rattle.p9_aout.specs.declared.format.AoutFault.{AoutFault}
 use Rattle.p9_base.specs.Calls.{Call, OnFiles, OnStream, StreamCall, Failing, CallsFine, CallsEnd}
 use Rattle.p9_base.specs.Outside.{FileCall, WriteCall}
 use Rattle.p9_base.specs.declared.outside.FileFault.TheVariants as store
@@ -16,7 +15,7 @@ use Rattle.p9_suite.specs.Scene.{names_written}
 use Rattle.p9_suite.specs.Simulation.{Simulates, RunsFile}
 use Rattle.p9_suite.specs.Stages.{Then, stops, goes_on, OnStreams, ReadsFile, WritesFile, written, write_fault, write_no_memory, output_no_memory, loaded, unloaded, load_no_memory}
 use Rattle.p9_suite.specs.Suite.{answer_of}
-use Rattle.p9_suite.specs.commands.Run.{Run, TakesForm, taken, formless, take_no_memory, ReadsForm, ReadsForms, Gives, IsProgram, Links, compiled, unlinked, link_no_memory, WritesAndRuns, LinksAndRuns, RunStages}
+use Rattle.p9_suite.specs.commands.Run.{Run, TakesForm, taken, formless, take_no_memory, ReadsForm, ReadsForms, Gives, IsProgram, compiled, unlinked, link_no_memory, WritesAndRuns, LinksAndRuns, RunStages}
 use Rattle.p9_suite.specs.declared.answer.Answer.{Answer}
 use Rattle.p9_suite.specs.declared.answer.Refusal.{Refusal}
 use Rattle.p9_suite.specs.declared.answer.Refusal.TheVariants.{StoreFault, Link, Memory}

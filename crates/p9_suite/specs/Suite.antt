@@ -70,8 +70,6 @@ pub record OfEveryCommand {I O F : Type 0} (call : Scene I O F) : Type 0 where
   pub others : IfSome (held call) (λ before. IsSomeAnd (held_now call) (λ now. (name : List ℕ) →
       ¬ (Contains (outputs (command call)) name) → now name ≡ before name))
 
--- What the command says
-
 -- where the words are a command, what that command says of its call
 abbrev pub Says : {I O F : Type 0} → Scene I O F → Type 0
 Says call = IfSome (command call) (CommandSays call)

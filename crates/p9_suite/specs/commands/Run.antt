@@ -159,8 +159,6 @@ pub record OfFiles {I O F : Type 0} (call : Scene I O F) (run : Run) (before : H
 abbrev pub FilesSay : {I O F : Type 0} → Scene I O F → Run → Type 0
 FilesSay call run = call.status ≢ 9 → call.status ≢ 10 → IfSome (held call) (λ before. OfFiles call run before)
 
--- The headline
-
 -- The units of the language so far. So the bytes are the C module: they spell a file of the form, and its tree with
 -- its types is the module.
 abbrev pub IsUnit : (bytes : List ℕ) → Module → Type 0
@@ -183,8 +181,6 @@ abbrev pub Headline : {I O F : Type 0} → Scene I O F → Run → Type 0
 Headline call run =
     (units : List Module) → IfSome (held call) (λ before. AreUnits before run.files units → Join (sources_of units) →
     call.status ≢ 9 → call.status ≢ 10 → KeepsUnion call run units)
-
--- The form
 
 -- What is special to the form of C so far, and goes when C is compiled whole: the programs of `run` read nothing, and
 -- where they do nothing undefined they have ended within the default budget.
