@@ -12,3 +12,5 @@ pub mod Agreement
 pub mod Reached
 pub mod Weights
 pub mod Depth
+pub mod Made
+pub mod Judging

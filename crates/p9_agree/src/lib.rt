@@ -4,4 +4,4 @@
 
 mod laws;
 
-pub use laws::{files_join_as_sources, form_comes, form_is_never_deep};
+pub use laws::{files_have_modules, files_join_as_sources, form_comes, form_is_never_deep};

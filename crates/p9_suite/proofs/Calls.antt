@@ -1,13 +1,13 @@
 -- What lists of calls leave: of which objects they are, and what the store tells.
-use Rattle.std.proofs.Common.{◌≡◌, ◌≢◌, ◌⊎◌, ℕ, List, [], ◌∷◌, ◌++◌, map, Option, Some, None, IfSome, Result, Ok, Err, inl, inr, refl, sym, ◌∙◌, ap, subst, append_assoc}
+use Rattle.std.proofs.Common.{◌≡◌, ◌≢◌, ℕ, List, [], ◌∷◌, ◌++◌, map, Option, Some, None, IfSome, Result, Ok, Err, refl, sym, ◌∙◌, ap, subst, append_assoc}
 use Rattle.std.specs.Prelude.{IsSomeAnd}
-use Rattle.p9_base.proofs.CallLemmas.{CallsFine-append, none_some}
-use Rattle.p9_base.specs.Calls.{Call, OnFiles, OnStream, StreamCall, StreamsDid, StreamsFine, StreamsEnd, Failing, Objects, Doing, Did, CallsFine, CallsEnd}
+use Rattle.p9_base.proofs.CallLemmas.{CallsFine-append}
+use Rattle.p9_base.specs.Calls.{Call, OnFiles, OnStream, StreamCall, StreamsDid, StreamsFine, StreamsEnd, Failing, Objects, Did, CallsFine, CallsEnd}
 use Rattle.p9_base.specs.Outside.{Held, TakeCall, PutCall, FileCall, ReadCall, WriteCall, FileMeans, Answers, OthersAsBefore, Writes}
 use Rattle.p9_base.specs.Streams.{CallsDid}
 use Rattle.p9_base.specs.declared.outside.FileFault.{FileFault}
 use Rattle.p9_base.specs.declared.outside.FileFault.TheVariants as fault
-use Rattle.p9_suite.specs.Scene.{doing, objects, names_written}
+use Rattle.p9_suite.specs.Scene.{doing, names_written}
 
 -- Calls in two parts
 

@@ -1,177 +1,22 @@
 -- What holds of every command follows from the ways on which it comes to its answer.
-use Rattle.std.proofs.Common.{◌≡◌, ◌≢◌, ◌⊎◌, ◌<◌, ℕ, zero, suc, ◌==◌, Bool, true, false, List, [], ◌∷◌, ◌++◌, length, map, take, Option, Some, None, IfSome, Result, Ok, Err, if◌then◌else◌, inl, inr, refl, sym, ◌∙◌, ap, subst, append-nil, arith}
+use Rattle.std.proofs.Common.{◌≡◌, ◌≢◌, ℕ, zero, suc, ◌==◌, Bool, true, false, List, [], ◌∷◌, take, Option, Some, None, IfSome, if◌then◌else◌, refl, sym, ◌∙◌, ap, subst, arith}
 use Rattle.std.proofs.lemmas.Bool.Decides.{nat_tests}
-use Rattle.std.proofs.lemmas.List.{map-append}
 use Rattle.std.specs.List.{Contains}
 use Rattle.std.specs.Prelude.{IsSomeAnd}
 use Rattle.p9_base.proofs.CallLemmas.{counts_say}
-use Rattle.p9_base.specs.Calls.{Call, OnFiles, OnStream, StreamCall, Failing, Input, Out, Store, Objects, Did, CallsFine, CallsEnd, Counts, CountsSay}
-use Rattle.p9_base.specs.Outside.{Held, Rose, FileCall, ReadCall, WriteCall}
-use Rattle.p9_base.specs.declared.outside.FileFault.TheVariants as store
-use Rattle.p9_base.specs.declared.outside.Got.TheVariants as got
-use Rattle.p9_form.specs.declared.file.File.{File}
-use Rattle.p9_suite.proofs.Calls.{after_fine, names_append, names_streams, names_reads, AreReads, IsNew, OfStore, of_store, others_kept, some_and}
+use Rattle.p9_base.specs.Calls.{Call, Failing, Input, Out, Store, Objects, Did, CallsEnd, Counts, CountsSay}
+use Rattle.p9_base.specs.Outside.{Held, Rose}
+use Rattle.p9_suite.proofs.Calls.{IsNew, OfStore, of_store, others_kept, some_and}
 use Rattle.p9_suite.proofs.Calls as calls
-use Rattle.p9_suite.proofs.Cases.{OnlyReads, file_reads, forms_read, ViCase, unread, refused, no_machine, simulated, vi_case, LinkCase, not_linked, ran_out, not_written, written_and_run, RunCase, unread_forms, read_forms, run_case}
 use Rattle.p9_suite.proofs.Meaning.{Meaning, counted}
-use Rattle.p9_suite.proofs.Ran as runs
-use Rattle.p9_suite.specs.Answers.{status, refusal_status, link_status, executable_status}
-use Rattle.p9_suite.specs.CommandLine.{Run, Vi, Command, RunCommand, ViCommand, outputs, command_of}
-use Rattle.p9_suite.specs.Scene.{Scene, IsAnswer, MadeCalls, OfEveryCommand, command, held, held_now, failing_at, has_run, is_early, names_written}
-use Rattle.p9_suite.specs.Suite.{Answered, CommandComes, answer_of}
-use Rattle.p9_aout.specs.declared.format.AoutFault.{AoutFault}
-use Rattle.p9_aout.specs.declared.format.AoutFault.TheVariants as executables
-use Rattle.p9_names.specs.declared.table.LinkFault.{LinkFault}
-use Rattle.p9_names.specs.declared.table.LinkFault.TheVariants as links
+use Rattle.p9_suite.proofs.Table.{command_tidy, command_usual}
+use Rattle.p9_suite.proofs.Tidy.{Tidy, take_none}
+use Rattle.p9_suite.specs.Answers.{status}
+use Rattle.p9_suite.specs.Scene.{Scene, held, held_now, failing_at, has_run, is_early, names_written}
+use Rattle.p9_suite.specs.Suite.{Answered, CommandComes, OfEveryCommand, command}
+use Rattle.p9_suite.specs.commands.{Command, outputs}
 use Rattle.p9_suite.specs.declared.answer.Answer.{Answer}
-use Rattle.p9_suite.specs.declared.answer.Answer.TheVariants.{Usage, Refused}
-use Rattle.p9_suite.specs.declared.answer.Refusal.{Refusal}
-use Rattle.p9_suite.specs.declared.answer.Refusal.TheVariants.{Absent, StoreFault, NotBuilt, Link, Executable, Memory}
-
-true_false : true ≡ false → ⊥
-true_false e = cc
-
-take_none : (names : List (List ℕ)) → take 0 names ≡ []
-take_none [] = refl
-take_none (x ∷ xs) = refl
-
--- Refusals
-
-link_fine : (why : LinkFault) → (link_status why ≢ 2) × (failing_at (link_status why) ≡ None)
-link_fine (links.Twice name i j) = ((λ e. cc), refl)
-link_fine links.NoMain = ((λ e. cc), refl)
-link_fine (links.MainType i) = ((λ e. cc), refl)
-link_fine (links.Unresolved name i) = ((λ e. cc), refl)
-link_fine (links.Disagree name i j) = ((λ e. cc), refl)
-link_fine links.Memory = ((λ e. cc), refl)
-
-executable_fine : (why : AoutFault) → (executable_status why ≢ 2) × (failing_at (executable_status why) ≡ None)
-executable_fine (executables.BadMagic magic) = ((λ e. cc), refl)
-executable_fine (executables.ShortFile need) = ((λ e. cc), refl)
-executable_fine executables.BadSegment = ((λ e. cc), refl)
-executable_fine executables.Memory = ((λ e. cc), refl)
-
-no_usage : (why : Refusal) → refusal_status why ≢ 2
-no_usage (Absent name) e = cc
-no_usage (StoreFault name) e = cc
-no_usage (NotBuilt name) e = cc
-no_usage (Link why) e = (link_fine why).0 e
-no_usage (Executable name why) e = (executable_fine why).0 e
-no_usage Memory e = cc
-
--- What the calls of a command are
-
-pub record Tidy (names : List (List ℕ)) (answer : Answer) (calls : List Call) : Type 0 where
-  pub ends : CallsEnd calls (failing_at (status answer))
-  pub count : ℕ
-  pub writes : names_written calls ≡ take count names
-  pub early : is_early (status answer) ≡ true → names_written calls ≡ []
-  pub quiet : has_run (status answer) ≡ false → (own : List FileCall) × (calls ≡ map OnFiles own)
-
-reads_tidy : (names : List (List ℕ)) (why : Refusal) (own : List FileCall) → OnlyReads {A = Answer} (Err why) own → Tidy names (Refused why) (map OnFiles own)
-reads_tidy names why own o = record {
-  ends = o.ends;
-  count = 0;
-  writes = names_reads own o.reads ∙ sym (take_none names);
-  early = λ _. names_reads own o.reads;
-  quiet = λ _. (own, refl);
-}
-
--- a program that ran behind calls that were fine
-ran_tidy : (names : List (List ℕ)) (file : List ℕ) (budget : ℕ) (front : List Call) (count : ℕ) (r : Result Answer Refusal) (own : List StreamCall) → CallsFine front → names_written front ≡ take count names → runs.Simulated file budget r own → Tidy names (answer_of r) (front ++ map OnStream own)
-ran_tidy names file budget front count r own fine writes s =
-    subst (λ (x : Result Answer Refusal). Tidy names (answer_of x) (front ++ map OnStream own)) (sym s.is) (record {
-      ends = after_fine front (map OnStream own) (failing_at (status s.answer)) fine s.ends;
-      count = count;
-      writes = names_append front (map OnStream own) ∙ (ap (λ (x : List (List ℕ)). names_written front ++ x) (names_streams own) ∙ (append-nil (names_written front) ∙ writes));
-      early = λ e. absurd (true_false (sym e ∙ s.late));
-      quiet = λ e. absurd (true_false (sym s.ran ∙ e));
-    })
-
-vi_tidy : (vi : Vi) (r : Result Answer Refusal) (calls : List Call) → ViCase vi r calls → Tidy [] (answer_of r) calls
-vi_tidy vi _ _ (unread why own s) = let o = file_reads vi.file (Err why) own s in reads_tidy [] why own (record { reads = o.reads; ends = o.ends })
-vi_tidy vi _ _ (refused bytes why e) = record {
-  ends = subst (λ (f : Option Failing). CallsEnd (OnFiles (ReadCall vi.file (got.Found bytes)) ∷ []) f) (sym (executable_fine why).1) (refl, tt);
-  count = 0;
-  writes = refl;
-  early = λ _. refl;
-  quiet = λ _. (ReadCall vi.file (got.Found bytes) ∷ [], refl);
-}
-vi_tidy vi _ _ (no_machine bytes) = record {
-  ends = (refl, tt);
-  count = 0;
-  writes = refl;
-  early = λ _. refl;
-  quiet = λ _. (ReadCall vi.file (got.Found bytes) ∷ [], refl);
-}
-vi_tidy vi r _ (simulated bytes _ own s) =
-    ran_tidy [] bytes vi.budget (OnFiles (ReadCall vi.file (got.Found bytes)) ∷ []) 0 r own (refl, tt) refl (runs.simulated bytes vi.budget r own s)
-
--- fine reads, and the calls behind them
-behind_reads : (names : List (List ℕ)) (answer : Answer) (reads : List FileCall) (behind : List Call) → AreReads reads → CallsFine (map OnFiles reads) → Tidy names answer behind → Tidy names answer (map OnFiles reads ++ behind)
-behind_reads names answer reads behind r fine t =
-    let same : names_written (map OnFiles reads ++ behind) ≡ names_written behind =
-    names_append (map OnFiles reads) behind ∙ ap (λ (x : List (List ℕ)). x ++ names_written behind) (names_reads reads r) in
-    record {
-      ends = after_fine (map OnFiles reads) behind (failing_at (status answer)) fine t.ends;
-      count = t.count;
-      writes = same ∙ t.writes;
-      early = λ e. same ∙ t.early e;
-      quiet = λ e. let q = t.quiet e in (reads ++ q.0, ap (λ (x : List Call). map OnFiles reads ++ x) q.1 ∙ sym (map-append OnFiles reads q.0));
-    }
-
-link_tidy : (run : Run) (files : List File) (r : Result Answer Refusal) (calls : List Call) → LinkCase run files r calls → Tidy (run.output ∷ []) (answer_of r) calls
-link_tidy run files _ _ (not_linked why h) = record {
-  ends = subst (λ (f : Option Failing). CallsEnd [] f) (sym (link_fine why).1) tt;
-  count = 0;
-  writes = refl;
-  early = λ _. refl;
-  quiet = λ _. ([], refl);
-}
-link_tidy run files _ _ (ran_out own o) = record {
-  ends = o.fine;
-  count = o.count;
-  writes = o.names;
-  early = λ e. cc;
-  quiet = λ _. (own, refl);
-}
-link_tidy run files _ _ (not_written bytes) = record {
-  ends = ([], OnFiles (WriteCall run.output bytes (Err store.Failed)), refl, tt, refl);
-  count = 1;
-  writes = refl;
-  early = λ e. cc;
-  quiet = λ _. (WriteCall run.output bytes (Err store.Failed) ∷ [], refl);
-}
-link_tidy run files r _ (written_and_run bytes program _ own s) =
-    ran_tidy (run.output ∷ []) bytes run.budget (OnFiles (WriteCall run.output bytes (Ok tt)) ∷ []) 1 r own (refl, tt) refl (runs.simulated bytes run.budget r own s)
-
-run_tidy : (run : Run) (r : Result Answer Refusal) (calls : List Call) → RunCase run r calls → Tidy (run.output ∷ []) (answer_of r) calls
-run_tidy run _ _ (unread_forms why own s) = let o = forms_read run.files (Err why) own s in reads_tidy (run.output ∷ []) why own (record { reads = o.reads; ends = o.ends })
-run_tidy run r _ (read_forms files own s _ behind l) =
-    let o = forms_read run.files (Ok files) own s in behind_reads (run.output ∷ []) (answer_of r) own behind o.reads o.ends (link_tidy run files r behind l)
-
--- no command answers as words that are none
-
-ran_usual : (file : List ℕ) (budget : ℕ) (r : Result Answer Refusal) (own : List StreamCall) → runs.Simulated file budget r own → status (answer_of r) ≢ 2
-ran_usual file budget r own s e =
-    let two : status s.answer ≡ 2 = ap (λ (x : Result Answer Refusal). status (answer_of x)) (sym s.is) ∙ e in
-    true_false (sym s.ran ∙ ap has_run two)
-
-vi_usual : (vi : Vi) (r : Result Answer Refusal) (calls : List Call) → ViCase vi r calls → status (answer_of r) ≢ 2
-vi_usual vi _ _ (unread why own s) = no_usage why
-vi_usual vi _ _ (refused bytes why e) = (executable_fine why).0
-vi_usual vi _ _ (no_machine bytes) = no_usage Memory
-vi_usual vi r _ (simulated bytes _ own s) = ran_usual bytes vi.budget r own (runs.simulated bytes vi.budget r own s)
-
-link_usual : (run : Run) (files : List File) (r : Result Answer Refusal) (calls : List Call) → LinkCase run files r calls → status (answer_of r) ≢ 2
-link_usual run files _ _ (not_linked why h) = (link_fine why).0
-link_usual run files _ _ (ran_out own o) = no_usage Memory
-link_usual run files _ _ (not_written bytes) = no_usage (StoreFault run.output)
-link_usual run files r _ (written_and_run bytes program _ own s) = ran_usual bytes run.budget r own (runs.simulated bytes run.budget r own s)
-
-run_usual : (run : Run) (r : Result Answer Refusal) (calls : List Call) → RunCase run r calls → status (answer_of r) ≢ 2
-run_usual run _ _ (unread_forms why own s) = no_usage why
-run_usual run r _ (read_forms files own s _ behind l) = link_usual run files r behind l
+use Rattle.p9_suite.specs.declared.answer.Answer.TheVariants.{Usage}
 
 -- the words are a command, or they are none
 pub data Usual (c : Option Command) (answer : Answer) (calls : List Call) : Type 0 where
@@ -180,12 +25,9 @@ pub data Usual (c : Option Command) (answer : Answer) (calls : List Call) : Type
 
 usual : (c : Option Command) (answer : Answer) (calls : List Call) → CommandComes c answer calls → Usual c answer calls
 usual None answer calls m = no_command refl m.0 m.1
-usual (Some (RunCommand run)) answer calls m =
-    let way = run_case run m.0 calls m.2 in
-    some_command (λ e. cc) (subst (λ (a : Answer). status a ≢ 2) (sym m.1) (run_usual run m.0 calls way)) (subst (λ (a : Answer). Tidy (run.output ∷ []) a calls) (sym m.1) (run_tidy run m.0 calls way))
-usual (Some (ViCommand vi)) answer calls m =
-    let way = vi_case vi m.0 calls m.2 in
-    some_command (λ e. cc) (subst (λ (a : Answer). status a ≢ 2) (sym m.1) (vi_usual vi m.0 calls way)) (subst (λ (a : Answer). Tidy [] a calls) (sym m.1) (vi_tidy vi m.0 calls way))
+usual (Some c) answer calls m =
+    some_command (λ e. cc) (subst (λ (a : Answer). status a ≢ 2) (sym m.1) (command_usual c m.0 calls m.2))
+    (subst (λ (a : Answer). Tidy (outputs (Some c)) a calls) (sym m.1) (command_tidy c m.0 calls m.2))
 
 -- The counts
 

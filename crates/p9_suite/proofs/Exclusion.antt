@@ -1,5 +1,5 @@
 -- What the store has at names is one thing: the causes exclude each other, and files have one meaning.
-use Rattle.std.proofs.Common.{◌≡◌, ◌≢◌, ◌⊎◌, ℕ, List, [], ◌∷◌, map, Option, Some, None, IsSomeAnd, true, false, Result, Ok, Err, IsOk, inl, inr, refl, sym, ap, ◌∙◌, subst}
+use Rattle.std.proofs.Common.{◌≡◌, ℕ, List, [], ◌∷◌, map, Option, Some, None, IsSomeAnd, true, false, Result, Err, IsOk, inl, inr, refl, sym, ap, ◌∙◌, subst}
 use Rattle.p9_base.specs.Outside.{Held}
 use Rattle.p9_first.specs.Modules.{source_from}
 use Rattle.p9_form.specs.declared.file.File.{File}

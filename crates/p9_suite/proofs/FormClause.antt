@@ -1,9 +1,9 @@
 -- What is special to the form of C so far.
-use Rattle.std.proofs.Common.{◌≡◌, ◌≢◌, ◌≤◌, ℕ, ◌+◌, Bool, true, false, List, [], ◌∷◌, ◌++◌, map, Option, Some, None, Result, Ok, Err, refl, sym, ◌∙◌, ap, subst}
+use Rattle.std.proofs.Common.{◌≡◌, ◌≢◌, ◌≤◌, ℕ, ◌+◌, true, List, ◌∷◌, ◌++◌, map, Option, Some, None, Result, Ok, refl, sym, ◌∙◌, ap, subst}
 use Rattle.std.specs.Prelude.{IsSomeAnd}
 use Rattle.p9_agree.specs.Depth.{IsNotDeep}
 use Rattle.p9_base.specs.CallBytes.{IsSteady, brought_in, written_in}
-use Rattle.p9_base.specs.Calls.{Call, OnFiles, OnStream, StreamCall, StreamsDid, Objects, Did}
+use Rattle.p9_base.specs.Calls.{Call, OnFiles, OnStream, StreamCall, StreamsDid, Did}
 use Rattle.p9_base.specs.Core.{Core}
 use Rattle.p9_base.specs.Outside.{FileCall, WriteCall}
 use Rattle.p9_base.specs.SystemCalls.{State, state, exit_text}
@@ -25,18 +25,16 @@ use Rattle.p9_headline.specs.Headline as seen
 use Rattle.p9_straight.specs.Headline.{seen_of, union_run}
 use Rattle.p9_vi.specs.Run.{vrun, IsExited}
 use Rattle.p9_suite.proofs.Calls.{of_store, of_streams, split}
-use Rattle.p9_suite.proofs.Cases.{LinkCase, not_linked, ran_out, not_written, written_and_run, RunCase, unread_forms, read_forms, run_case}
+use Rattle.p9_suite.proofs.RunCases.{LinkCase, not_linked, ran_out, not_written, written_and_run, RunCase, unread_forms, read_forms, run_case}
 use Rattle.p9_suite.proofs.HeadlineClause.{modules_sources}
 use Rattle.p9_suite.proofs.Meaning.{Meaning, told_by}
 use Rattle.p9_suite.proofs.Ran as runs
-use Rattle.p9_suite.proofs.Telling.{Brought}
-use Rattle.p9_suite.specs.Answers.{status, refusal_status, link_status, executable_status}
-use Rattle.p9_suite.specs.CommandLine.{Run, Command, RunCommand}
-use Rattle.p9_suite.specs.Scene.{Scene, IsAnswer, command, left, left_now, has_run}
+use Rattle.p9_suite.specs.Answers.{refusal_status, link_status, executable_status}
+use Rattle.p9_suite.specs.Scene.{Scene, IsAnswer, has_run}
 use Rattle.p9_suite.specs.Simulation.{IsRunBy, exit_answer, answer_by, answer_at}
-use Rattle.p9_suite.specs.Suite.{Answered, Comes, CommandComes, answer_of}
-use Rattle.p9_suite.specs.commands.Form.{DoNothingUndefined, HaveEnded, OfForm, FormSays}
-use Rattle.p9_suite.specs.commands.Run.{RunStages, ReadsForms, IsProgram}
+use Rattle.p9_suite.specs.Suite.{Answered, Comes, CommandComes, answer_of, command}
+use Rattle.p9_suite.specs.commands.{Command, RunCommand}
+use Rattle.p9_suite.specs.commands.Run.{DoNothingUndefined, HaveEnded, OfForm, FormSays, Run, RunStages, ReadsForms, IsProgram}
 use Rattle.p9_suite.specs.declared.answer.Answer.{Answer}
 use Rattle.p9_suite.specs.declared.answer.Answer.TheVariants.{Refused}
 use Rattle.p9_suite.specs.declared.answer.Refusal.{Refusal}
@@ -181,7 +179,7 @@ module _ {I O F : Type 0} (call : Scene I O F) (means : Meaning call) (run : Run
   by_run _ _ (unread_forms why own s) is d = refused why is
   by_run r _ (read_forms files own s _ behind l) is d = by_link files own r behind s l is d
 
-pub form_says : {I O F : Type 0} (call : Scene I O F) → Meaning call → Answered call → FormSays call
+pub form_says : {I O F : Type 0} (call : Scene I O F) → Meaning call → Answered call → (run : Run) → command call ≡ Some (RunCommand run) → FormSays call run
 form_says call means a run w enough ran seven eight =
     let comes : Comes (RunStages run) a.answer a.calls = subst (λ (c : Option Command). CommandComes c a.answer a.calls) w a.comes in
     by_run call means run enough ran seven eight comes.0 a.calls (run_case run comes.0 a.calls comes.2) (subst (IsAnswer call) comes.1 a.is) a.did

@@ -1,7 +1,8 @@
 -- The headline of `run`.
-use Rattle.std.proofs.Common.{◌≡◌, ◌≢◌, ℕ, List, [], ◌∷◌, map, All, Option, Some, None, refl, sym, ◌∙◌, ap, subst}
+use Rattle.std.proofs.Common.{◌≡◌, ◌≢◌, ℕ, List, [], ◌∷◌, map, All, Some, refl, sym, ◌∙◌, ap, subst}
 use Rattle.std.proofs.lemmas.List.Elements.{All-cons, All-nil}
 use Rattle.p9_agree.proofs.Agreement.{files_join_as_sources}
+use Rattle.p9_agree.specs.Modules.{IsModuleOf, AreModulesOf}
 use Rattle.p9_base.specs.Outside.{Held}
 use Rattle.p9_first.proofs.Sources.{source_of_module}
 use Rattle.p9_first.specs.Form.{IsFile}
@@ -20,12 +21,10 @@ use Rattle.p9_suite.proofs.Exclusion.{absent_files, formless_files, same_sources
 use Rattle.p9_suite.proofs.Meaning.{Meaning}
 use Rattle.p9_suite.proofs.RunClause.{first_map, run_answer}
 use Rattle.p9_suite.proofs.Told.{if_held}
-use Rattle.p9_suite.specs.CommandLine.{Run, RunCommand}
-use Rattle.p9_suite.specs.Scene.{Scene, IsAnswer, command, held}
-use Rattle.p9_suite.specs.Suite.{Answered}
-use Rattle.p9_suite.specs.commands.Form.{AreModulesOf}
-use Rattle.p9_suite.specs.commands.Headline.{IsModuleOf, IsUnit, AreUnits, KeepsUnion, Headline}
-use Rattle.p9_suite.specs.commands.Run.{AreFiles, IsAbsent, IsFormless, RunAnswer, at_absent, at_formless, at_refused, at_run}
+use Rattle.p9_suite.specs.Scene.{Scene, IsAnswer}
+use Rattle.p9_suite.specs.Suite.{Answered, command}
+use Rattle.p9_suite.specs.commands.{RunCommand}
+use Rattle.p9_suite.specs.commands.Run.{Run, AreUnits, KeepsUnion, Headline, AreFiles, IsAbsent, IsFormless, RunAnswer, at_absent, at_formless, at_refused, at_run}
 use Rattle.p9_suite.specs.declared.answer.Answer.TheVariants.{Refused}
 use Rattle.p9_suite.specs.declared.answer.Refusal.TheVariants.{Absent, NotBuilt}
 
@@ -86,6 +85,6 @@ kept call run units before u join (at_run files are bytes program there runs) =
       runs = runs;
     }
 
-pub headline : {I O F : Type 0} (call : Scene I O F) → Meaning call → Answered call → Headline call
-headline call means a run units w = if_held call (λ before. AreUnits before run.files units → Join (sources_of units) → call.status ≢ 9 → call.status ≢ 10 → KeepsUnion call run units)
+pub headline : {I O F : Type 0} (call : Scene I O F) → Meaning call → Answered call → (run : Run) → command call ≡ Some (RunCommand run) → Headline call run
+headline call means a run w units = if_held call (λ before. AreUnits before run.files units → Join (sources_of units) → call.status ≢ 9 → call.status ≢ 10 → KeepsUnion call run units)
     (λ before at u join nine ten. kept call run units before u join (run_answer call means a run before w at nine ten))

@@ -1,12 +1,12 @@
 -- What the traits promise of a call's objects, and what its calls tell.
-use Rattle.std.proofs.Common.{◌≡◌, ℕ, List, ◌++◌, Option, Some, None, IfSome, refl, ap, subst, ◌∙◌, sym}
+use Rattle.std.proofs.Common.{◌≡◌, ℕ, List, ◌++◌, Option, Some, None, IfSome, refl, subst, sym}
 use Rattle.p9_base.specs.CallBytes.{written_in}
 use Rattle.p9_base.specs.Calls.{StreamCall, StreamsDid, Counted}
 use Rattle.p9_base.specs.Outside.{TakeCall, TakeMeans, PutCall, PutMeans, FileCall, FileMeans}
 use Rattle.p9_base.proofs.CallLemmas.{take_counts, put_counts, file_counts}
 use Rattle.p9_suite.proofs.Ran.{ToldBy}
-use Rattle.p9_suite.proofs.Telling.{Brought, told_input, told_out}
-use Rattle.p9_suite.specs.Scene.{Scene, HasPut, left, left_now}
+use Rattle.p9_suite.proofs.Telling.{told_input, told_out}
+use Rattle.p9_suite.specs.Scene.{Scene, HasPut}
 
 pub record Meaning {I O F : Type 0} (call : Scene I O F) : Type 0 where
   pub takes : (old : I) (c : TakeCall) (new : I) → call.doing.takes old c new → TakeMeans (call.telling.left old) (call.counts.input_faults old) c (call.telling.left new) (call.counts.input_faults new)

@@ -1,5 +1,5 @@
 -- The executable of files that join.
-use Rattle.std.proofs.Common.{◌≡◌, ℕ, List, map, All}
+use Rattle.std.proofs.Common.{ℕ, List, map, All}
 use Rattle.p9_agree.proofs.Depth.{form_is_never_deep}
 use Rattle.p9_first.specs.Form.{IsFile}
 use Rattle.p9_form.specs.declared.file.File.{File}

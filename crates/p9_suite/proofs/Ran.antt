@@ -1,10 +1,10 @@
 -- What the calls of a simulation say of its run, where the source tells what is left.
-use Rattle.std.proofs.Common.{◌≡◌, ◌≢◌, ◌⊎◌, ℕ, ◌+◌, ◌<◌, ◌≤◌, Bool, true, false, List, [], ◌∷◌, ◌++◌, length, take, drop, map, Option, Some, None, IfSome, Result, Ok, Err, inl, inr, refl, sym, ◌∙◌, ap, subst, append_assoc, append-nil, length-append, arith}
+use Rattle.std.proofs.Common.{◌≡◌, ◌≢◌, ℕ, ◌≤◌, true, false, List, [], ◌∷◌, ◌++◌, length, take, drop, map, Option, Some, None, Result, Ok, refl, sym, ◌∙◌, ap, subst, append_assoc, append-nil, length-append, arith}
 use Rattle.std.proofs.lemmas.Grind.{common_steps}
 use Rattle.p9_base.specs.CallBytes.{brought, written, brought_in, written_in, calls_of, steps_of, IsSteady}
-use Rattle.p9_base.specs.Calls.{StreamCall, OnInput, OnOut, StreamsDid, StreamsEnd, Failing, Input, Out, CallsEnd, OnStream, Objects}
+use Rattle.p9_base.specs.Calls.{StreamCall, OnInput, OnOut, Failing, Input, Out, CallsEnd, OnStream}
 use Rattle.p9_base.specs.Core.{Core, bytes_from}
-use Rattle.p9_base.specs.Outside.{TakeCall, TakeMeans, PutCall, PutMeans, FileCall, FileMeans}
+use Rattle.p9_base.specs.Outside.{TakeCall, PutCall}
 use Rattle.p9_base.specs.SystemCalls.{State, state, exit_text}
 use Rattle.p9_base.specs.declared.halt.Ending.{Ending}
 use Rattle.p9_base.specs.declared.halt.Ending.TheVariants as endings
@@ -13,14 +13,14 @@ use Rattle.p9_r3k.specs.Machine.{asked}
 use Rattle.p9_vi.specs.Run.{vrun}
 use Rattle.p9_vi.specs.Stops.{IsAtCall}
 use Rattle.p9_suite.proofs.Calls.{ends_streams}
-use Rattle.p9_suite.proofs.Telling.{Brought, told_input, told_out, brought_append, written_append, steady_front, brought_takes, written_takes, brought_puts, written_puts}
-use Rattle.p9_suite.specs.Answers.{status, message}
+use Rattle.p9_suite.proofs.Telling.{Brought, brought_append, written_append, steady_front, brought_takes, written_takes, brought_puts, written_puts}
+use Rattle.p9_suite.specs.Answers.{status}
 use Rattle.p9_suite.specs.Scene.{Scene, IsAnswer, HasPut, left, left_now, failing_at, has_run, is_early}
 use Rattle.p9_suite.specs.Simulation.{IsRunBy, IsRunTo, Simulates, stopped, read_failed, write_failed, exit_answer, answer_by, answer_at}
 use Rattle.p9_suite.specs.Told.{HasRun, HasRunToRead, HasRunToWrite, OfRun}
 use Rattle.p9_suite.specs.declared.answer.Answer.{Answer}
-use Rattle.p9_suite.specs.declared.answer.Answer.TheVariants.{Done, Ran}
-use Rattle.p9_suite.specs.declared.answer.End.TheVariants.{Exit, ReadFault, WriteFault, Halted, Spent}
+use Rattle.p9_suite.specs.declared.answer.Answer.TheVariants.{Ran}
+use Rattle.p9_suite.specs.declared.answer.End.TheVariants.{ReadFault, WriteFault}
 use Rattle.p9_suite.specs.declared.answer.Refusal.{Refusal}
 
 seven_eight : ◌≡◌ {A = ℕ} 7 8 → ⊥

@@ -1,29 +1,28 @@
 -- The clause of `run`.
-use Rattle.std.proofs.Common.{◌≡◌, ◌≢◌, ◌⊎◌, ℕ, Bool, true, false, List, [], ◌∷◌, ◌++◌, map, Option, Some, None, Result, Ok, Err, inl, inr, refl, sym, ◌∙◌, ap, subst}
+use Rattle.std.proofs.Common.{◌≡◌, ◌≢◌, ℕ, true, false, List, [], ◌∷◌, map, Option, Some, Result, Ok, Err, inl, inr, refl, sym, ◌∙◌, ap, subst}
 use Rattle.std.specs.Prelude.{IsSomeAnd}
-use Rattle.p9_base.specs.Calls.{Call, OnFiles, OnStream, StreamCall, Objects, Did}
-use Rattle.p9_base.specs.Outside.{Held, FileCall, WriteCall}
+use Rattle.p9_base.specs.Calls.{Call, OnFiles, Objects, Did}
+use Rattle.p9_base.specs.Outside.{Held}
 use Rattle.p9_form.specs.declared.file.File.{File}
 use Rattle.p9_abs.specs.BuiltIn.{linked}
 use Rattle.p9_names.specs.Answers.{Joins}
 use Rattle.p9_names.specs.declared.table.LinkFault.{LinkFault}
 use Rattle.p9_names.specs.declared.table.LinkFault.TheVariants as links
 use Rattle.p9_share.specs.Symbols.{module_of}
-use Rattle.p9_suite.proofs.Calls.{AllAgree, reads_agree, reads_keep, of_store, of_streams, stands, split}
-use Rattle.p9_suite.proofs.Cases.{LinkCase, not_linked, ran_out, not_written, written_and_run, RunCase, unread_forms, read_forms, run_case, forms_read}
+use Rattle.p9_suite.proofs.Calls.{reads_agree, reads_keep, of_store, of_streams, stands, split}
+use Rattle.p9_suite.proofs.RunCases.{LinkCase, not_linked, ran_out, not_written, written_and_run, RunCase, unread_forms, read_forms, run_case, forms_read}
 use Rattle.p9_suite.proofs.Exclusion.{absent_files, formless_files, absent_formless, refused_joined}
 use Rattle.p9_suite.proofs.Meaning.{Meaning}
 use Rattle.p9_suite.proofs.Told.{if_held, simulation_told, files_told, FirstFault, forms_fault}
-use Rattle.p9_suite.specs.Answers.{status, refusal_status, link_status}
-use Rattle.p9_suite.specs.CommandLine.{Run, Command, RunCommand}
-use Rattle.p9_suite.specs.Scene.{Scene, IsAnswer, command, held, held_now, has_run}
-use Rattle.p9_suite.specs.Suite.{Answered, Comes, CommandComes, answer_of}
-use Rattle.p9_suite.specs.Told.{OfRun}
-use Rattle.p9_suite.specs.commands.Run.{RunStages, AreFiles, IsFirst, IsAbsent, IsFormless, AreRefused, RunAnswer, at_absent, at_formless, at_refused, at_run, OfFiles, RunSays}
+use Rattle.p9_suite.specs.Answers.{link_status}
+use Rattle.p9_suite.specs.Scene.{Scene, IsAnswer, held, has_run}
+use Rattle.p9_suite.specs.Suite.{Answered, Comes, CommandComes, answer_of, command}
+use Rattle.p9_suite.specs.commands.{Command, RunCommand}
+use Rattle.p9_suite.specs.commands.Run.{Run, RunStages, AreFiles, IsFirst, IsAbsent, IsFormless, AreRefused, RunAnswer, at_absent, at_formless, at_refused, at_run, OfFiles, FilesSay}
 use Rattle.p9_suite.specs.declared.answer.Answer.{Answer}
 use Rattle.p9_suite.specs.declared.answer.Answer.TheVariants.{Refused}
 use Rattle.p9_suite.specs.declared.answer.Refusal.{Refusal}
-use Rattle.p9_suite.specs.declared.answer.Refusal.TheVariants.{Absent, NotBuilt, Link}
+use Rattle.p9_suite.specs.declared.answer.Refusal.TheVariants.{Absent, NotBuilt}
 
 pub first_map : (P Q : (name : List ℕ) → Option (List ℕ) → Type 0) → ((name : List ℕ) (there : Option (List ℕ)) → P name there → Q name there) → (before : Held) (names : List (List ℕ)) → IsFirst P before names → IsFirst Q before names
 first_map P Q f before [] i = i
@@ -147,6 +146,6 @@ of_files call run before answer (other h files are joins) = record {
   joined = λ _ _ _. (files, are, joins);
 }
 
-pub run_says : {I O F : Type 0} (call : Scene I O F) → Meaning call → Answered call → RunSays call
+pub run_says : {I O F : Type 0} (call : Scene I O F) → Meaning call → Answered call → (run : Run) → command call ≡ Some (RunCommand run) → FilesSay call run
 run_says call means a run w nine ten = if_held call (λ before. OfFiles call run before) (λ before at.
     let answer = run_answer call means a run before w at nine ten in of_files call run before answer (status_of call run before answer))

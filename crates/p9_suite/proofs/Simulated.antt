@@ -1,5 +1,5 @@
 -- How a simulation comes to its answer: its calls show the run of the file's bytes.
-use Rattle.std.proofs.Common.{◌≡◌, ◌≢◌, ◌≤◌, ◌<◌, ◌⊎◌, Option, option_map, Result, inl, inr, ℕ, ◌+◌, ◌-◌, List, [], ◌++◌, Some, None, Ok, Err, refl, sym, ◌∙◌, ap, subst, append-nil, arith}
+use Rattle.std.proofs.Common.{◌≡◌, ◌≢◌, ◌≤◌, ◌<◌, ◌⊎◌, option_map, Result, inl, inr, ℕ, ◌+◌, ◌-◌, List, [], ◌++◌, Some, None, Ok, Err, refl, sym, ◌∙◌, ap, subst, append-nil, arith}
 use Rattle.p9_base.specs.Outside.{TakeCall, PutCall}
 use Rattle.p9_base.specs.Calls.{StreamCall, StreamsDid, StreamsFine, StreamsEnd, Failing, Input, Out}
 use Rattle.p9_aout.specs.Image.{ImageParts, image_of}

@@ -1,7 +1,7 @@
 -- Calls of one stage, and then of another.
 use Rattle.std.proofs.Common.{◌≡◌, ℕ, List, [], ◌∷◌, ◌++◌, map, Result, Ok, Err, refl, sym, ap, subst}
 use Rattle.p9_base.proofs.CallLemmas.{Did-append, Did-streams}
-use Rattle.p9_base.specs.Calls.{Call, StreamCall, OnFiles, OnStream, Objects, Doing, Did}
+use Rattle.p9_base.specs.Calls.{Call, StreamCall, OnFiles, OnStream, Objects, Did}
 use Rattle.p9_base.specs.Outside.{TakeCall, PutCall, FileCall, ReadCall, WriteCall}
 use Rattle.p9_base.specs.Streams.{CallsDid}
 use Rattle.p9_base.specs.declared.outside.FileFault.TheVariants as store

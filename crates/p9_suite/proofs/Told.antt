@@ -1,9 +1,8 @@
 -- What a simulation tells, and what the store tells of the files that were read.
-use Rattle.std.proofs.Common.{◌≡◌, ◌≢◌, ◌⊎◌, ℕ, List, [], ◌∷◌, ◌++◌, map, Option, Some, None, IfSome, Result, Ok, Err, inl, inr, refl, sym, ◌∙◌, ap, subst}
-use Rattle.std.specs.Prelude.{IsSomeAnd}
+use Rattle.std.proofs.Common.{◌≡◌, ◌≢◌, ◌⊎◌, ℕ, List, [], ◌∷◌, Option, Some, None, IfSome, Result, Ok, Err, inl, inr, refl, sym, subst}
 use Rattle.p9_aout.specs.Image.{ImageParts, image_of}
 use Rattle.p9_base.specs.Calls.{StreamCall, StreamsDid}
-use Rattle.p9_base.specs.Outside.{Held, FileCall, ReadCall}
+use Rattle.p9_base.specs.Outside.{Held, FileCall}
 use Rattle.p9_form.specs.declared.file.File.{File}
 use Rattle.p9_form.specs.Items.{items_of}
 use Rattle.p9_form.specs.Spelling.{HasForm}

@@ -1,24 +1,23 @@
 -- The clause of `vi`.
-use Rattle.std.proofs.Common.{◌≡◌, ◌≢◌, ℕ, List, [], ◌∷◌, ◌++◌, map, Option, Some, None, Result, Ok, Err, refl, sym, ◌∙◌, ap, subst}
+use Rattle.std.proofs.Common.{◌≡◌, ◌≢◌, ℕ, List, [], ◌∷◌, map, Option, Some, Result, Ok, Err, refl, sym, subst}
 use Rattle.p9_aout.specs.Image.{ImageParts, image_of}
 use Rattle.p9_aout.specs.declared.format.AoutFault.{AoutFault}
-use Rattle.p9_base.specs.Calls.{Call, OnFiles, OnStream, StreamCall, Did}
+use Rattle.p9_base.specs.Calls.{Call, OnFiles, OnStream, Did}
 use Rattle.p9_base.specs.Outside.{Held, FileCall, ReadCall}
 use Rattle.p9_base.specs.declared.outside.Got.TheVariants as got
-use Rattle.p9_suite.proofs.Calls.{AllAgree, reads_agree, of_store, of_streams, split}
-use Rattle.p9_suite.proofs.Cases.{ViCase, unread, refused, no_machine, simulated, vi_case, file_reads}
+use Rattle.p9_suite.proofs.Calls.{AllAgree, reads_agree, of_store, of_streams}
+use Rattle.p9_suite.proofs.Tidy.{file_reads}
+use Rattle.p9_suite.proofs.ViCases.{ViCase, unread, refused, no_machine, simulated, vi_case}
 use Rattle.p9_suite.proofs.Meaning.{Meaning}
 use Rattle.p9_suite.proofs.Told.{if_held, simulated_image, simulation_told}
-use Rattle.p9_suite.specs.CommandLine.{Vi, Command, ViCommand}
-use Rattle.p9_suite.specs.Scene.{Scene, IsAnswer, command, held}
-use Rattle.p9_suite.specs.Simulation.{Simulates}
-use Rattle.p9_suite.specs.Stages.{ReadsFile, found, absent, read_fault, read_no_memory, name_no_memory}
-use Rattle.p9_suite.specs.Suite.{Answered, Comes, CommandComes, answer_of}
-use Rattle.p9_suite.specs.commands.Vi.{ViStages, OfBytes, OfFile, ViSays}
+use Rattle.p9_suite.specs.Scene.{Scene, IsAnswer, held}
+use Rattle.p9_suite.specs.Stages.{ReadsFile, absent, read_fault, read_no_memory, name_no_memory}
+use Rattle.p9_suite.specs.Suite.{Answered, Comes, CommandComes, answer_of, command}
+use Rattle.p9_suite.specs.commands.{Command, ViCommand}
+use Rattle.p9_suite.specs.commands.Vi.{Vi, ViStages, OfBytes, OfFile, ViSays}
 use Rattle.p9_suite.specs.declared.answer.Answer.{Answer}
 use Rattle.p9_suite.specs.declared.answer.Answer.TheVariants.{Refused}
 use Rattle.p9_suite.specs.declared.answer.Refusal.{Refusal}
-use Rattle.p9_suite.specs.declared.answer.Refusal.TheVariants.{Executable}
 
 module _ {I O F : Type 0} (call : Scene I O F) (means : Meaning call) (vi : Vi) (before : Held) (at : held call ≡ Some before) (nine : call.status ≢ 9) (ten : call.status ≢ 10) where
   -- a read's answer agrees with what the store told
@@ -49,7 +48,7 @@ module _ {I O F : Type 0} (call : Scene I O F) (means : Meaning call) (vi : Vi) 
       of_image bytes (Ok image.0) (one_read bytes (map OnStream own) d) image.1
       (simulation_told call means bytes vi.budget r own d.0.input d.0.out d.1.1 d.1.2 o.did s is)
 
-pub vi_says : {I O F : Type 0} (call : Scene I O F) → Meaning call → Answered call → ViSays call
+pub vi_says : {I O F : Type 0} (call : Scene I O F) → Meaning call → Answered call → (vi : Vi) → command call ≡ Some (ViCommand vi) → ViSays call vi
 vi_says call means a vi w nine ten = if_held call (λ before. OfFile call vi (before vi.file)) (λ before at.
     let comes : Comes (ViStages vi) a.answer a.calls = subst (λ (c : Option Command). CommandComes c a.answer a.calls) w a.comes in
     by_way call means vi before at nine ten comes.0 a.calls (vi_case vi comes.0 a.calls comes.2) a.did (subst (IsAnswer call) comes.1 a.is))

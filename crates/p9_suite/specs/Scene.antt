@@ -1,11 +1,9 @@
--- A call of the suite, and what holds of it whatever its command.
-use Rattle.std.specs.Prelude.{◌≡◌, ◌≢◌, ◌↔◌, ◌||◌, ◌==◌, ℕ, Bool, true, false, List, [], ◌∷◌, ◌++◌, Option, Some, None, IfSome, IsSomeAnd, take, if◌then◌else◌}
-use Rattle.std.specs.List.{Contains}
-use Rattle.p9_base.specs.Calls.{Call, OnFiles, OnStream, Failing, Input, Out, Store, Objects, Doing, Did, CallsEnd, Counts}
-use Rattle.p9_base.specs.Outside.{Held, Rose, TakeCall, PutCall, FileCall, ReadCall, WriteCall}
+-- A call of the suite, and what is asked of it.
+use Rattle.std.specs.Prelude.{◌≡◌, ◌||◌, ◌==◌, ℕ, Bool, List, [], ◌∷◌, ◌++◌, Option, Some, None, IfSome, if◌then◌else◌}
+use Rattle.p9_base.specs.Calls.{Call, OnFiles, OnStream, Failing, Input, Out, Store, Objects, Doing, Counts}
+use Rattle.p9_base.specs.Outside.{Held, TakeCall, PutCall, FileCall, ReadCall, WriteCall}
 use Rattle.p9_suite.specs.declared.answer.Answer.{Answer}
 use Rattle.p9_suite.specs.Answers.{status, message}
-use Rattle.p9_suite.specs.CommandLine.{Command, command_of, outputs}
 
 -- what the source, the sink and the store tell of their content
 pub record Telling (I O F : Type 0) : Type 0 where
@@ -42,9 +40,6 @@ scene doing telling counts old new words s Line =
     record { doing = doing; telling = telling; counts = counts; old = old; new = new; words = words; status = s; Line = Line }
 
 -- What is asked of a scene
-
-abbrev pub command : {I O F : Type 0} → Scene I O F → Option Command
-command call = command_of call.words
 
 -- the status and the line are this answer's
 abbrev pub IsAnswer : {I O F : Type 0} → Scene I O F → Answer → Type 0
@@ -87,36 +82,3 @@ names_written [] = []
 names_written (OnStream call ∷ calls) = names_written calls
 names_written (OnFiles (ReadCall name answer) ∷ calls) = names_written calls
 names_written (OnFiles (WriteCall name bytes answer) ∷ calls) = name ∷ names_written calls
-
--- No call follows one that failed, and the status says whose call that was. Of the names that the command may write
--- so many have been written, in their order and each once, and none before an early refusal.
-pub record MadeCalls {I O F : Type 0} (call : Scene I O F) : Type 0 where
-  pub calls : List Call
-  pub did : Did call.doing call.old calls call.new
-  pub ends : CallsEnd calls (failing_at call.status)
-  pub count : ℕ
-  pub writes : names_written calls ≡ take count (outputs (command call))
-  pub early : is_early call.status ≡ true → names_written calls ≡ []
-
--- Every command
-
-pub record OfEveryCommand {I O F : Type 0} (call : Scene I O F) : Type 0 where
-  -- 2 exactly where the words are no command
-  pub usage : (call.status ≡ 2) ↔ (command call ≡ None)
-  -- 7 exactly where a call on the source failed: its count rose, and at every other status it stays
-  pub read_fault : call.status ≡ 7 → Rose (call.counts.input_faults call.old.input) (call.counts.input_faults call.new.input)
-  pub no_read_fault : call.status ≢ 7 → call.counts.input_faults call.new.input ≡ call.counts.input_faults call.old.input
-  -- 8 exactly where a call on the sink failed
-  pub write_fault : call.status ≡ 8 → Rose (call.counts.out_faults call.old.out) (call.counts.out_faults call.new.out)
-  pub no_write_fault : call.status ≢ 8 → call.counts.out_faults call.new.out ≡ call.counts.out_faults call.old.out
-  -- 9 exactly where a call on the store failed
-  pub store_fault : call.status ≡ 9 → Rose (call.counts.store_faults call.old.files) (call.counts.store_faults call.new.files)
-  pub no_store_fault : call.status ≢ 9 → call.counts.store_faults call.new.files ≡ call.counts.store_faults call.old.files
-  pub made : MadeCalls call
-  -- where no program ran, the source and the sink are as they were
-  pub untouched : has_run call.status ≡ false → (call.new.input ≡ call.old.input) × (call.new.out ≡ call.old.out)
-  -- an early refusal leaves the store as it was
-  pub unwritten : is_early call.status ≡ true → held_now call ≡ held call
-  -- whatever the status, every name that the command doesn't write has what it had
-  pub others : IfSome (held call) (λ before. IsSomeAnd (held_now call) (λ now. (name : List ℕ) →
-      ¬ (Contains (outputs (command call)) name) → now name ≡ before name))

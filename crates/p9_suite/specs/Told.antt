@@ -1,6 +1,6 @@
 -- What the status, the line, the input and the output of a call say of the run of an executable, where the source
 -- tells what is left. It follows from the calls that were made.
-use Rattle.std.specs.Prelude.{◌≡◌, ◌≢◌, ◌<◌, ◌≤◌, ℕ, true, List, ◌++◌, length, take, drop, Option, Some}
+use Rattle.std.specs.Prelude.{◌≡◌, ◌≢◌, ◌<◌, ◌≤◌, ℕ, true, List, ◌++◌, length, take, drop, Some}
 use Rattle.p9_base.specs.Core.{bytes_from}
 use Rattle.p9_base.specs.SystemCalls.{State}
 use Rattle.p9_base.specs.declared.halt.Asked.TheVariants as asks

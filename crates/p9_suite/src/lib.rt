@@ -2,7 +2,6 @@
 #![tactic(auto)]
 
 mod answer;
-mod command;
 mod commands;
 mod copied;
 mod halt;
@@ -14,6 +13,7 @@ mod stages;
 #[cfg(test)]
 mod tests;
 mod top;
+mod words;
 
 pub use answer::{Answer, End, Refusal};
 pub use message::Message;

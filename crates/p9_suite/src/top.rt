@@ -1,18 +1,13 @@
 // The top call.
 ghost use Rattle.std.specs.Prelude.{◌≡◌, List};
 ghost use Rattle.p9_base.specs.Calls.{Call, Did};
-ghost use Rattle.p9_suite.specs.CommandLine.{command_of};
 ghost use Rattle.p9_suite.specs.Reports.{Tells};
-ghost use Rattle.p9_suite.specs.Scene.{OfEveryCommand, counts, doing, objects, scene, telling};
-ghost use Rattle.p9_suite.specs.Suite.{Answered, CommandComes, answer_of};
-ghost use Rattle.p9_suite.specs.commands.Form.{FormSays};
-ghost use Rattle.p9_suite.specs.commands.Headline.{Headline};
-ghost use Rattle.p9_suite.specs.commands.Run.{RunSays};
-ghost use Rattle.p9_suite.specs.commands.Vi.{ViSays};
+ghost use Rattle.p9_suite.specs.Scene.{counts, doing, objects, scene, telling};
+ghost use Rattle.p9_suite.specs.Suite.{Answered, CommandComes, OfEveryCommand, Says, answer_of};
+ghost use Rattle.p9_suite.specs.commands.{command_of};
 
 use crate::answer::{Answer, Refusal};
-use crate::command::{Command, command_of};
-use crate::commands::{run, vi};
+use crate::commands::{command_of, perform};
 use crate::report::{report, status};
 use p9_base::{Files, Sink, Source, Words};
 use std::alloc::Global;
@@ -40,10 +35,7 @@ fn answer<I: Source, O: Sink, F: Files>(
         × CommandComes (command_of words.now) result calls }
 {
     match command_of(words) {
-        Some(Command::Run(c)) => {
-            answer_of(run(alloc, c.files, c.output, c.budget, input, out, files))
-        }
-        Some(Command::Vi(c)) => answer_of(vi(alloc, c.file, c.budget, input, out, files)),
+        Some(command) => answer_of(perform(alloc, command, input, out, files)),
         None => Answer::Usage,
     }
 }
@@ -69,23 +61,10 @@ pub fn suite<I: Source, O: Sink, E: Sink, F: Files>(
         (objects input.old out.old files.old) (objects input.new out.new files.new) words.now result
         (λ line. Tells E.sofar E.faults err.old err.new line)) }
 
-    // The answer of `vi` is that of the run of the file's bytes at the budget, for the input that was left.
-    ensures vi { ViSays (scene (doing I.did O.did F.did) (telling I.left O.sofar F.held) (counts I.faults O.faults F.faults)
-        (objects input.old out.old files.old) (objects input.new out.new files.new) words.now result
-        (λ line. Tells E.sofar E.faults err.old err.new line)) }
-
-    // The answer of `run` is that of the files in the store and of their executable's run.
-    ensures run { RunSays (scene (doing I.did O.did F.did) (telling I.left O.sofar F.held) (counts I.faults O.faults F.faults)
-        (objects input.old out.old files.old) (objects input.new out.new files.new) words.now result
-        (λ line. Tells E.sofar E.faults err.old err.new line)) }
-
-    // What `run` writes keeps the meaning of its C modules, and the answer is that of its run.
-    ensures headline { Headline (scene (doing I.did O.did F.did) (telling I.left O.sofar F.held) (counts I.faults O.faults F.faults)
-        (objects input.old out.old files.old) (objects input.new out.new files.new) words.now result
-        (λ line. Tells E.sofar E.faults err.old err.new line)) }
-
-    // What is special to the form of C so far: its programs end in time where they do nothing undefined.
-    ensures form { FormSays (scene (doing I.did O.did F.did) (telling I.left O.sofar F.held) (counts I.faults O.faults F.faults)
+    // What the words' command says, by the table of commands: of `vi`, that its answer is that of the run of the
+    // file's bytes; of `run`, that its answer is that of the files in the store and of their executable's run, and
+    // that what it writes keeps the meaning of its C modules.
+    ensures says { Says (scene (doing I.did O.did F.did) (telling I.left O.sofar F.held) (counts I.faults O.faults F.faults)
         (objects input.old out.old files.old) (objects input.new out.new files.new) words.now result
         (λ line. Tells E.sofar E.faults err.old err.new line)) }
 {

@@ -1,21 +1,60 @@
 // The command `run`.
-ghost use Rattle.std.specs.Prelude.{◌≡◌, ◌≤◌, [], length, All, IfOk};
+ghost use Rattle.std.specs.Prelude.{◌≡◌, ◌≤◌, [], length, All, MatchOption, Some, None};
+ghost use Rattle.std.specs.List.{list_all};
 ghost use Rattle.p9_base.specs.Calls.{Call};
 ghost use Rattle.p9_base.specs.Outside.{FileCall};
 ghost use Rattle.p9_first.specs.Form.{IsFile};
 ghost use Rattle.p9_form.specs.Items.{items_of};
 ghost use Rattle.p9_form.specs.Sharing.{IsSmall};
+ghost use Rattle.p9_suite.specs.CommandLine.{is_source};
 ghost use Rattle.p9_suite.specs.Scene.{doing, objects};
 ghost use Rattle.p9_suite.specs.Stages.{Makes, MakesOnStore};
-ghost use Rattle.p9_suite.specs.commands.Run.{Links, LinksAndRuns, ReadsForm, ReadsForms, RunStages, TakesForm, WritesAndRuns};
+ghost use Rattle.p9_suite.specs.commands.Run.{Links, LinksAndRuns, ReadsForm, ReadsForms, RunStages, TakesForm, WritesAndRuns, run_of, run_seen};
+
+mod request;
 
 use crate::answer::{Answer, Refusal};
+pub(crate) use crate::commands::run::request::Run;
 use crate::stages::{read_file, run_file, write_file};
+use crate::words::is_source;
 use p9_base::{Bytes, Files, Name, Sink, Source};
 use p9_form::{File, FileList};
+use p9_headline::DEFAULT_BUDGET;
 use p9_share::join;
 use p9_straight::compile;
 use std::alloc::Global;
+
+/// `run` takes so many files at most.
+const MOST_FILES: usize = 16;
+
+// Whether all of these words name C sources.
+fn are_sources(files: &[Name]) -> bool
+    ensures { result ≡ list_all is_source files.now }
+{
+    let mut rest = files;
+    while let [file, after @ ..] = rest {
+        if !is_source(&file.list) {
+            return false;
+        }
+        rest = after;
+    }
+    true
+}
+
+/// The words behind `run`.
+pub(crate) fn run_of(words: &[Name]) -> Option<Run<'_>>
+    ensures { MatchOption result (run_of words.now ≡ None) (λ run. run_of words.now ≡ Some (run_seen run)) }
+{
+    if 1 <= words.len() && words.len() <= MOST_FILES && are_sources(words) {
+        Some(Run {
+            budget: DEFAULT_BUDGET,
+            output: b"v.out",
+            files: words,
+        })
+    } else {
+        None
+    }
+}
 
 // Takes bytes as a file of the form. A refusal names the file by `name`.
 fn form_of(alloc: Global, name: &Name, bytes: &Bytes) -> Result<File, Refusal>
@@ -103,7 +142,7 @@ fn link_and_run<I: Source, O: Sink, F: Files>(
 
 /// Compiles files, writes the executable by the name `output`, and simulates it for at most `budget`
 /// instructions.
-pub(crate) fn run<I: Source, O: Sink, F: Files>(
+pub(crate) fn compile_and_run<I: Source, O: Sink, F: Files>(
     alloc: Global,
     names: &[Name],
     output: &[u8],

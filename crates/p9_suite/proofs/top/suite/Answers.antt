@@ -1,9 +1,6 @@
 use Rattle.p9_suite.proofs.Clauses.{answered}
 use Rattle.p9_suite.proofs.Every.{of_every_command}
-use Rattle.p9_suite.proofs.FormClause.{form_says}
-use Rattle.p9_suite.proofs.HeadlineClause.{headline}
-use Rattle.p9_suite.proofs.RunClause.{run_says}
-use Rattle.p9_suite.proofs.ViClause.{vi_says}
+use Rattle.p9_suite.proofs.Table.{says}
 use Rattle.p9_suite.specs.Reports.{Tells}
 use Rattle.p9_suite.specs.Scene.{scene, doing, telling, counts, objects}
 use Rattle.p9_suite.proofs.top.suite.Goals as goal
@@ -18,30 +15,9 @@ returns-clause-always g c =
     (λ line. Tells g.E.Sink.sofar g.E.Sink.faults c.args.err.now c.report.new.sink line))
     (record { takes = g.met.I.Source.means; puts = g.met.O.Sink.means; stores = g.met.F.Files.means }) (answered _ c.answer-answer.result c.answer-answer.ensures c.status.ensures c.report.ensures)
 
-pub returns-clause-vi : goal.returns-clause-vi
-returns-clause-vi g c =
-    vi_says (scene (doing g.I.Source.did g.O.Sink.did g.F.Files.did) (telling g.I.Source.left g.O.Sink.sofar g.F.Files.held) (counts g.I.Source.faults g.O.Sink.faults g.F.Files.faults)
-    (objects c.args.input.now c.args.out.now c.args.files.now) (objects c.answer-answer.new.input c.answer-answer.new.out c.answer-answer.new.files) c.args.words.now c.status.result
-    (λ line. Tells g.E.Sink.sofar g.E.Sink.faults c.args.err.now c.report.new.sink line))
-    (record { takes = g.met.I.Source.means; puts = g.met.O.Sink.means; stores = g.met.F.Files.means }) (answered _ c.answer-answer.result c.answer-answer.ensures c.status.ensures c.report.ensures)
-
-pub returns-clause-run : goal.returns-clause-run
-returns-clause-run g c =
-    run_says (scene (doing g.I.Source.did g.O.Sink.did g.F.Files.did) (telling g.I.Source.left g.O.Sink.sofar g.F.Files.held) (counts g.I.Source.faults g.O.Sink.faults g.F.Files.faults)
-    (objects c.args.input.now c.args.out.now c.args.files.now) (objects c.answer-answer.new.input c.answer-answer.new.out c.answer-answer.new.files) c.args.words.now c.status.result
-    (λ line. Tells g.E.Sink.sofar g.E.Sink.faults c.args.err.now c.report.new.sink line))
-    (record { takes = g.met.I.Source.means; puts = g.met.O.Sink.means; stores = g.met.F.Files.means }) (answered _ c.answer-answer.result c.answer-answer.ensures c.status.ensures c.report.ensures)
-
-pub returns-clause-headline : goal.returns-clause-headline
-returns-clause-headline g c =
-    headline (scene (doing g.I.Source.did g.O.Sink.did g.F.Files.did) (telling g.I.Source.left g.O.Sink.sofar g.F.Files.held) (counts g.I.Source.faults g.O.Sink.faults g.F.Files.faults)
-    (objects c.args.input.now c.args.out.now c.args.files.now) (objects c.answer-answer.new.input c.answer-answer.new.out c.answer-answer.new.files) c.args.words.now c.status.result
-    (λ line. Tells g.E.Sink.sofar g.E.Sink.faults c.args.err.now c.report.new.sink line))
-    (record { takes = g.met.I.Source.means; puts = g.met.O.Sink.means; stores = g.met.F.Files.means }) (answered _ c.answer-answer.result c.answer-answer.ensures c.status.ensures c.report.ensures)
-
-pub returns-clause-form : goal.returns-clause-form
-returns-clause-form g c =
-    form_says (scene (doing g.I.Source.did g.O.Sink.did g.F.Files.did) (telling g.I.Source.left g.O.Sink.sofar g.F.Files.held) (counts g.I.Source.faults g.O.Sink.faults g.F.Files.faults)
+pub returns-clause-says : goal.returns-clause-says
+returns-clause-says g c =
+    says (scene (doing g.I.Source.did g.O.Sink.did g.F.Files.did) (telling g.I.Source.left g.O.Sink.sofar g.F.Files.held) (counts g.I.Source.faults g.O.Sink.faults g.F.Files.faults)
     (objects c.args.input.now c.args.out.now c.args.files.now) (objects c.answer-answer.new.input c.answer-answer.new.out c.answer-answer.new.files) c.args.words.now c.status.result
     (λ line. Tells g.E.Sink.sofar g.E.Sink.faults c.args.err.now c.report.new.sink line))
     (record { takes = g.met.I.Source.means; puts = g.met.O.Sink.means; stores = g.met.F.Files.means }) (answered _ c.answer-answer.result c.answer-answer.ensures c.status.ensures c.report.ensures)

@@ -3,7 +3,7 @@ use Rattle.p9_suite.proofs.Forms.{read_form, read_small, read_count}
 use Rattle.p9_suite.proofs.StageLemmas.{all_refused, all_went_on}
 use Rattle.p9_suite.specs.Scene.{objects}
 use Rattle.p9_suite.specs.commands.Run.{ReadsForms, LinksAndRuns}
-use Rattle.p9_suite.proofs.commands.run.run.Goals as goal
+use Rattle.p9_suite.proofs.commands.run.compile_and_run.Goals as goal
 
 pub returns-in_err-list : goal.returns-in_err-list
 returns-in_err-list g c =

@@ -4,7 +4,7 @@ use Rattle.p9_suite.proofs.StageLemmas.{all_refused, all_went_on, on_streams}
 use Rattle.p9_suite.specs.Scene.{objects}
 use Rattle.p9_suite.specs.Simulation.{RunsFile}
 use Rattle.p9_suite.specs.Stages.{ReadsFile, OnStreams, MakesOnStreams}
-use Rattle.p9_suite.proofs.commands.vi.vi.Goals as goal
+use Rattle.p9_suite.proofs.commands.vi.read_and_run.Goals as goal
 
 pub returns-in_err-bytes : goal.returns-in_err-bytes
 returns-in_err-bytes g c =

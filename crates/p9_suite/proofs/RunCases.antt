@@ -1,58 +1,26 @@
--- The ways on which commands come to their results, each with its calls.
-use Rattle.std.proofs.Common.{◌≡◌, ◌≢◌, ◌⊎◌, ℕ, List, [], ◌∷◌, ◌++◌, map, take, Option, Some, None, Result, Ok, Err, inl, inr, refl, sym, ◌∙◌, ap, subst, append-nil}
-use Rattle.std.proofs.lemmas.List.{map-append}
-use Rattle.p9_aout.specs.Image.{ImageParts, image_of}
-use Rattle.p9_aout.specs.declared.format.AoutFault.{AoutFault}
-use Rattle.p9_aout.specs.declared.format.AoutFault.TheVariants as executables
-use Rattle.p9_base.proofs.CallLemmas.{CallsFine-append}
+-- The ways on which `run` comes to its result, each with its calls.
+use Rattle.std.proofs.Common.{◌≡◌, ◌≢◌, ℕ, List, [], ◌∷◌, ◌++◌, map, take, Option, Result, Ok, Err, refl, sym, subst}
 use Rattle.p9_base.specs.Calls.{Call, OnFiles, OnStream, StreamCall, Failing, CallsFine, CallsEnd}
-use Rattle.p9_base.specs.Outside.{FileCall, ReadCall, WriteCall}
+use Rattle.p9_base.specs.Outside.{FileCall, WriteCall}
 use Rattle.p9_base.specs.declared.outside.FileFault.TheVariants as store
-use Rattle.p9_base.specs.declared.outside.Got.TheVariants as got
 use Rattle.p9_form.specs.declared.file.File.{File}
 use Rattle.p9_abs.specs.BuiltIn.{linked}
 use Rattle.p9_names.specs.Answers.{IsRefusal}
 use Rattle.p9_names.specs.declared.table.LinkFault.{LinkFault}
 use Rattle.p9_share.specs.Symbols.{module_of}
-use Rattle.p9_suite.proofs.Calls.{AreReads, reads_append, after_fine}
-use Rattle.p9_suite.specs.Answers.{refusal_status}
-use Rattle.p9_suite.specs.CommandLine.{Run, Vi}
-use Rattle.p9_suite.specs.Scene.{failing_at, names_written}
+use Rattle.p9_suite.proofs.Ran as runs
+use Rattle.p9_suite.proofs.Tidy.{OnlyReads, then_reads, file_reads, Tidy, reads_tidy, ran_tidy, behind_reads, ran_usual, no_usage, link_fine}
+use Rattle.p9_suite.specs.Answers.{status}
+use Rattle.p9_suite.specs.Scene.{names_written}
 use Rattle.p9_suite.specs.Simulation.{Simulates, RunsFile}
-use Rattle.p9_suite.specs.Stages.{Stage, Then, stops, goes_on, OnStore, OnStreams, ReadsFile, found, absent, read_fault, read_no_memory, name_no_memory, WritesFile, written, write_fault, write_no_memory, output_no_memory, Loads, loaded, unloaded, load_no_memory}
-use Rattle.p9_suite.specs.commands.Run.{TakesForm, taken, formless, take_no_memory, ReadsForm, ReadsForms, Gives, IsProgram, Links, compiled, unlinked, link_no_memory, WritesAndRuns, LinksAndRuns, RunStages}
-use Rattle.p9_suite.specs.commands.Vi.{ViStages}
+use Rattle.p9_suite.specs.Stages.{Then, stops, goes_on, OnStreams, ReadsFile, WritesFile, written, write_fault, write_no_memory, output_no_memory, loaded, unloaded, load_no_memory}
+use Rattle.p9_suite.specs.Suite.{answer_of}
+use Rattle.p9_suite.specs.commands.Run.{Run, TakesForm, taken, formless, take_no_memory, ReadsForm, ReadsForms, Gives, IsProgram, compiled, unlinked, link_no_memory, WritesAndRuns, LinksAndRuns, RunStages}
 use Rattle.p9_suite.specs.declared.answer.Answer.{Answer}
 use Rattle.p9_suite.specs.declared.answer.Refusal.{Refusal}
-use Rattle.p9_suite.specs.declared.answer.Refusal.TheVariants.{Absent, StoreFault, NotBuilt, Link, Executable, Memory}
+use Rattle.p9_suite.specs.declared.answer.Refusal.TheVariants.{StoreFault, Link, Memory}
 
--- Stages that only read
-
--- the object whose call failed, where the result is a refusal
-abbrev pub failed_in : {A : Type 0} → Result A Refusal → Option Failing
-failed_in (Ok value) = None
-failed_in (Err why) = failing_at (refusal_status why)
-
-pub record OnlyReads {A : Type 0} (r : Result A Refusal) (calls : List FileCall) : Type 0 where
-  pub reads : AreReads calls
-  pub ends : CallsEnd (map OnFiles calls) (failed_in r)
-
-then_reads : {A B : Type 0} (first : Stage FileCall A) (next : A → Stage FileCall B) → ((r : Result A Refusal) (calls : List FileCall) → first r calls → OnlyReads r calls) → ((value : A) (r : Result B Refusal) (calls : List FileCall) → next value r calls → OnlyReads r calls) → (r : Result B Refusal) (calls : List FileCall) → Then first next r calls → OnlyReads r calls
-then_reads first next f n _ _ (stops why calls s) = let o = f (Err why) calls s in record { reads = o.reads; ends = o.ends }
-then_reads first next f n _ _ (goes_on value r front behind s t) =
-    let a = f (Ok value) front s in
-    let b = n value r behind t in
-    record {
-      reads = reads_append front behind a.reads b.reads;
-      ends = subst (λ (x : List Call). CallsEnd x (failed_in r)) (sym (map-append OnFiles front behind)) (after_fine (map OnFiles front) (map OnFiles behind) (failed_in r) a.ends b.ends);
-    }
-
-pub file_reads : (name : List ℕ) (r : Result (List ℕ) Refusal) (calls : List FileCall) → ReadsFile name r calls → OnlyReads r calls
-file_reads name _ _ (found bytes) = record { reads = tt; ends = (refl, tt) }
-file_reads name _ _ absent = record { reads = tt; ends = (refl, tt) }
-file_reads name _ _ read_fault = record { reads = tt; ends = ([], OnFiles (ReadCall name got.Failed), refl, tt, refl) }
-file_reads name _ _ read_no_memory = record { reads = tt; ends = (refl, tt) }
-file_reads name _ _ name_no_memory = record { reads = tt; ends = tt }
+-- Reading
 
 form_takes : (name bytes : List ℕ) (r : Result File Refusal) (calls : List FileCall) → TakesForm name bytes r calls → OnlyReads r calls
 form_takes name bytes _ _ (taken file f m) = record { reads = tt; ends = tt }
@@ -72,28 +40,7 @@ forms_read (name ∷ names) r calls s =
     (λ file. then_reads (ReadsForms names) (λ files. Gives (file ∷ files)) (forms_read names) (λ files. gives_reads (file ∷ files)))
     r calls s
 
--- The ways of `vi`
-
-pub data ViCase (vi : Vi) : Result Answer Refusal → List Call → Type 0 where
-  unread : (why : Refusal) (own : List FileCall) → ReadsFile vi.file (Err why) own → ViCase vi (Err why) (map OnFiles own)
-  refused : (bytes : List ℕ) (why : AoutFault) → image_of bytes ≡ Err why → ViCase vi (Err (Executable vi.file why)) (OnFiles (ReadCall vi.file (got.Found bytes)) ∷ [])
-  no_machine : (bytes : List ℕ) → ViCase vi (Err Memory) (OnFiles (ReadCall vi.file (got.Found bytes)) ∷ [])
-  simulated : (bytes : List ℕ) (r : Result Answer Refusal) (own : List StreamCall) → Simulates bytes vi.budget r own → ViCase vi r (OnFiles (ReadCall vi.file (got.Found bytes)) ∷ map OnStream own)
-
-vi_ran : (vi : Vi) (bytes : List ℕ) (r : Result Answer Refusal) (own : List StreamCall) → RunsFile vi.file bytes vi.budget r own → ViCase vi r (OnFiles (ReadCall vi.file (got.Found bytes)) ∷ map OnStream own)
-vi_ran vi bytes _ _ (stops _ _ (unloaded why e)) = refused bytes why e
-vi_ran vi bytes _ _ (stops _ _ load_no_memory) = no_machine bytes
-vi_ran vi bytes r _ (goes_on _ _ _ behind (loaded parts e) s) = simulated bytes r behind s
-
-vi_read : (vi : Vi) (bytes : List ℕ) (own : List FileCall) (r : Result Answer Refusal) (behind : List Call) → ReadsFile vi.file (Ok bytes) own → OnStreams (RunsFile vi.file bytes vi.budget) r behind → ViCase vi r (map OnFiles own ++ behind)
-vi_read vi _ _ r behind (found bytes) (own, e, s) =
-    subst (λ (x : List Call). ViCase vi r (OnFiles (ReadCall vi.file (got.Found bytes)) ∷ x)) (sym e) (vi_ran vi bytes r own s)
-
-pub vi_case : (vi : Vi) (r : Result Answer Refusal) (calls : List Call) → ViStages vi r calls → ViCase vi r calls
-vi_case vi _ _ (stops why calls (own, e, s)) = subst (λ (x : List Call). ViCase vi (Err why) x) (sym e) (unread why own s)
-vi_case vi r _ (goes_on bytes _ front behind (own, e, s) t) = subst (λ (x : List Call). ViCase vi r (x ++ behind)) (sym e) (vi_read vi bytes own r behind s t)
-
--- The ways of `run`
+-- The ways
 
 -- calls on the store behind which memory ran out: at most the write
 pub record RanOut (output : List ℕ) (own : List FileCall) : Type 0 where
@@ -143,3 +90,45 @@ pub run_case : (run : Run) (r : Result Answer Refusal) (calls : List Call) → R
 run_case run _ _ (stops why calls (own, e, s)) = subst (λ (x : List Call). RunCase run (Err why) x) (sym e) (unread_forms why own s)
 run_case run r _ (goes_on files _ front behind (own, e, s) t) =
     subst (λ (x : List Call). RunCase run r (x ++ behind)) (sym e) (read_forms files own s r behind (link_case run files r behind t))
+
+-- What their calls are
+
+link_tidy : (run : Run) (files : List File) (r : Result Answer Refusal) (calls : List Call) → LinkCase run files r calls → Tidy (run.output ∷ []) (answer_of r) calls
+link_tidy run files _ _ (not_linked why h) = record {
+  ends = subst (λ (f : Option Failing). CallsEnd [] f) (sym (link_fine why).1) tt;
+  count = 0;
+  writes = refl;
+  early = λ _. refl;
+  quiet = λ _. ([], refl);
+}
+link_tidy run files _ _ (ran_out own o) = record {
+  ends = o.fine;
+  count = o.count;
+  writes = o.names;
+  early = λ e. cc;
+  quiet = λ _. (own, refl);
+}
+link_tidy run files _ _ (not_written bytes) = record {
+  ends = ([], OnFiles (WriteCall run.output bytes (Err store.Failed)), refl, tt, refl);
+  count = 1;
+  writes = refl;
+  early = λ e. cc;
+  quiet = λ _. (WriteCall run.output bytes (Err store.Failed) ∷ [], refl);
+}
+link_tidy run files r _ (written_and_run bytes program _ own s) =
+    ran_tidy (run.output ∷ []) bytes run.budget (OnFiles (WriteCall run.output bytes (Ok tt)) ∷ []) 1 r own (refl, tt) refl (runs.simulated bytes run.budget r own s)
+
+pub run_tidy : (run : Run) (r : Result Answer Refusal) (calls : List Call) → RunCase run r calls → Tidy (run.output ∷ []) (answer_of r) calls
+run_tidy run _ _ (unread_forms why own s) = let o = forms_read run.files (Err why) own s in reads_tidy (run.output ∷ []) why own (record { reads = o.reads; ends = o.ends })
+run_tidy run r _ (read_forms files own s _ behind l) =
+    let o = forms_read run.files (Ok files) own s in behind_reads (run.output ∷ []) (answer_of r) own behind o.reads o.ends (link_tidy run files r behind l)
+
+link_usual : (run : Run) (files : List File) (r : Result Answer Refusal) (calls : List Call) → LinkCase run files r calls → status (answer_of r) ≢ 2
+link_usual run files _ _ (not_linked why h) = (link_fine why).0
+link_usual run files _ _ (ran_out own o) = no_usage Memory
+link_usual run files _ _ (not_written bytes) = no_usage (StoreFault run.output)
+link_usual run files r _ (written_and_run bytes program _ own s) = ran_usual bytes run.budget r own (runs.simulated bytes run.budget r own s)
+
+pub run_usual : (run : Run) (r : Result Answer Refusal) (calls : List Call) → RunCase run r calls → status (answer_of r) ≢ 2
+run_usual run _ _ (unread_forms why own s) = no_usage why
+run_usual run r _ (read_forms files own s _ behind l) = link_usual run files r behind l
