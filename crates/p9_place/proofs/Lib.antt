@@ -1,0 +1,4 @@
+pub mod Collecting
+pub mod Owning
+pub mod Offsets
+pub mod Answering

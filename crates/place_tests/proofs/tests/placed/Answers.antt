@@ -1,0 +1,7 @@
+use Rattle.place_tests.proofs.tests.placed.Goals as goal
+
+pub resolve-requires-clause-valid : goal.resolve-requires-clause-valid
+resolve-requires-clause-valid g c = c.in_ok-valid.ensures.0 c.if-not-valid.false
+
+pub place-requires-clause-valid : goal.place-requires-clause-valid
+place-requires-clause-valid g c = c.in_ok-valid.ensures.0 c.if-not-valid.false
