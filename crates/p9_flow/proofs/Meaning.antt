@@ -1,9 +1,8 @@
 -- Live over acts is live over the function.
-use Rattle.std.proofs.Common.{ℕ, zero, suc, ◌+◌, ◌==◌, ◌&&◌, ◌||◌, ◌≡◌, ◌≢◌, ◌⊎◌, ◌↔◌, inl, inr, ◌<◌, nat_lt, Bool, true, false, Option, Some, None, option_map, option_and_then, refl, sym, ap, ◌∙◌, subst, arith, rules, if◌then◌else◌, List, [], ◌∷◌, length, slice_get, slice_index_or, map}
-use Rattle.std.proofs.lemmas.Bool.{true≢false, false≢true, and_parts, or_cases, ltb-true, eqb-true}
+use Rattle.std.proofs.Common.{ℕ, ◌+◌, ◌==◌, ◌&&◌, ◌||◌, ◌≡◌, ◌≢◌, ◌⊎◌, ◌↔◌, inl, inr, ◌<◌, nat_lt, Bool, true, false, Option, Some, None, option_map, option_and_then, refl, sym, ap, ◌∙◌, subst, rules, if◌then◌else◌, List, [], ◌∷◌, length, slice_get, slice_index_or, map}
+use Rattle.std.proofs.lemmas.Bool.{false≢true, and_parts, or_cases, eqb-true}
 use Rattle.std.proofs.lemmas.Bool.Decides.{eqb_tells}
 use Rattle.std.proofs.lemmas.Option.{slice_get_within, slice_get-map}
-use Rattle.std.proofs.lemmas.List.{length-map}
 use Rattle.p9_abs.specs.declared.instructions.Abs.{Abs}
 use Rattle.p9_abs.specs.declared.instructions.AFunction.{AFunction}
 use Rattle.p9_abs.specs.declared.forms.Location.{Location}
@@ -11,7 +10,7 @@ use Rattle.p9_abs.specs.declared.forms.Location.TheVariants as location
 use Rattle.p9_abs.specs.declared.forms.Form.{Form}
 use Rattle.p9_abs.specs.declared.forms.Form.TheVariants as forms
 use Rattle.p9_abs.specs.Forms.{decoded}
-use Rattle.p9_abs.specs.Automatics.{form_at, holds_of, flows, falls, goes_to, is_automatic, reads, writes, reads_at, writes_at, fills_at, is_candidate, IsReadAlong, IsLive}
+use Rattle.p9_abs.specs.Automatics.{form_at, holds_of, falls, goes_to, is_automatic, reads, writes, writes_at, fills_at, is_candidate, IsReadAlong, IsLive}
 use Rattle.p9_abs.proofs.Candidates.{candidate-fills}
 use Rattle.p9_flow.specs.declared.acts.Act.{Act}
 use Rattle.p9_flow.specs.Acts.{automatic_of, read_of, written_of, jump_of, kept, act_of}

@@ -1,9 +1,9 @@
 -- What is marked is in the order, also after one more mark or one more number.
-use Rattle.std.proofs.Common.{ℕ, zero, suc, ◌==◌, ◌≡◌, ◌≢◌, ◌⊎◌, inl, inr, ◌<◌, Bool, true, false, refl, sym, ap, ◌∙◌, subst, arith, List, [], ◌∷◌, ◌++◌, length, All, Contains, slice_index_or, slice_set, replicate}
+use Rattle.std.proofs.Common.{ℕ, zero, suc, ◌==◌, ◌≡◌, ◌≢◌, ◌⊎◌, inl, inr, ◌<◌, Bool, true, false, refl, sym, ap, ◌∙◌, subst, arith, List, Contains, slice_index_or, slice_set, replicate}
 use Rattle.std.proofs.lemmas.Bool.{false≢true}
 use Rattle.std.proofs.lemmas.Bool.Decides.{eqb_tells}
 use Rattle.std.proofs.lemmas.List.{get_or-set_other}
-use Rattle.p9_flow.specs.Columns.{IsOrder, AreNamed}
+use Rattle.p9_flow.specs.Columns.{AreNamed}
 
 unmarked : (n k : ℕ) → slice_index_or (replicate n false) k false ≡ false
 unmarked zero k = refl

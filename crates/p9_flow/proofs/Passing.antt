@@ -1,14 +1,14 @@
 -- Passes over a column, until it is closed: the bits are then those that are live.
-use Rattle.std.proofs.Common.{ℕ, zero, suc, ◌+◌, ◌*◌, ◌==◌, ◌≡◌, ◌≢◌, ◌⊎◌, inl, inr, ◌≤◌, ◌<◌, ◌↔◌, Bool, true, false, Some, refl, sym, ap, ◌∙◌, subst, arith, List, [], ◌∷◌, length, slice_get, slice_index, get_or, bit_or, take, drop, ◌++◌, replicate, All}
+use Rattle.std.proofs.Common.{ℕ, zero, suc, ◌+◌, ◌*◌, ◌==◌, ◌≡◌, ◌≢◌, ◌⊎◌, inl, inr, ◌<◌, Bool, true, false, Some, refl, sym, ap, ◌∙◌, subst, arith, List, [], ◌∷◌, length, slice_get, slice_index, get_or, bit_or, take, drop, ◌++◌, replicate}
 use Rattle.std.specs.Int.{bit_at}
 use Rattle.std.proofs.lemmas.Bool.{false≢true}
 use Rattle.std.proofs.lemmas.Bool.Decides.{eqb_tells}
-use Rattle.std.proofs.lemmas.Nat.Bits.{bit_at-zero, bit_at_or}
+use Rattle.std.proofs.lemmas.Nat.Bits.{bit_at-zero}
 use Rattle.std.proofs.lemmas.List.{length-set, get_or_default}
 use Rattle.std.proofs.Math.Seq.{take-append_seam}
 use Rattle.std.proofs.lemmas.Option.{slice_get_within}
 use Rattle.p9_flow.specs.declared.acts.Act.{Act}
-use Rattle.p9_flow.specs.Columns.{GoesTo, IsReadAlong, IsLive, needed, IsSound, HasNeeded, IsClosed, slack, IsRaised, IsVisited, IsOrder, IsColumn}
+use Rattle.p9_flow.specs.Columns.{IsReadAlong, needed, IsSound, HasNeeded, IsClosed, slack, IsRaised, IsVisited, IsOrder, IsColumn}
 use Rattle.p9_flow.proofs.Rising.{or-right, needed-read, needed-on, raised-sound, raised-slack}
 
 abbrev Tells : ℕ → ℕ → Type 0

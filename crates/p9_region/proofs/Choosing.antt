@@ -214,4 +214,3 @@ greedy-first rs gaps order used homes z = record {
 pub range-next : (homes : List (Option ℕ)) (r : ℕ) (o : Option ℕ) (asked : Bool) (points used after : List ℕ) → All (λ h. IfSome h IsHome) homes → IsChosen asked points used o after → All (λ h. IfSome h IsHome) (slice_set homes r o)
 range-next homes r None asked points used after all c = All-set (λ h. IfSome h IsHome) homes r None tt all
 range-next homes r (Some d) asked points used after all c = let s = c.some d refl in All-set (λ h. IfSome h IsHome) homes r (Some d) (s.0, s.1) all
-

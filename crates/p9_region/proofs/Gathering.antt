@@ -1,7 +1,7 @@
 -- The regions of all automatics.
 use Rattle.std.proofs.Common.{ℕ, suc, ◌+◌, ◌*◌, ◌/◌, ◌%◌, ◌≡◌, ◌↔◌, ◌⊎◌, inl, inr, ◌≤◌, ◌<◌, Bool, true, false, Some, None, Option, refl, sym, ap, ◌∙◌, subst, arith, List, [], ◌++◌, length, slice_get, slice_index, slice_index_or, map}
 use Rattle.std.specs.Int.{bit_at}
-use Rattle.std.proofs.lemmas.Bool.{false≢true, true≢false}
+use Rattle.std.proofs.lemmas.Bool.{false≢true}
 use Rattle.std.proofs.lemmas.Option.{slice_get_within}
 use Rattle.std.proofs.Math.ListN.{get_or-eq_default}
 use Rattle.p9_abs.specs.declared.instructions.AFunction.{AFunction}
@@ -10,7 +10,7 @@ use Rattle.p9_abs.specs.Forms.{decoded}
 use Rattle.p9_abs.specs.Automatics.{is_candidate, is_small_whole, IsLive}
 use Rattle.p9_abs.specs.Regions.{AreRegions}
 use Rattle.p9_flow.specs.declared.rows.Rows.{Rows}
-use Rattle.p9_flow.specs.Rows.{words_for, AreLiveRows}
+use Rattle.p9_flow.specs.Rows.{AreLiveRows}
 use Rattle.p9_region.specs.declared.steps.Step.{Step}
 use Rattle.p9_region.specs.declared.classes.Edge.{Edge}
 use Rattle.p9_region.specs.Labels.{AreClasses}

@@ -1,16 +1,15 @@
 -- Groups of points with one label are regions.
-use Rattle.std.proofs.Common.{ℕ, zero, suc, ◌+◌, ◌-◌, ◌==◌, ◌≡◌, ◌≢◌, ◌⊎◌, inl, inr, ◌≤◌, ◌<◌, Bool, true, false, Some, None, refl, sym, ap, ◌∙◌, subst, arith, if◌then◌else◌, List, [], ◌∷◌, ◌++◌, length, length-append, slice_get, slice_index, slice_index_or, get_or, map, All, AllPairs, Contains}
+use Rattle.std.proofs.Common.{ℕ, zero, suc, ◌+◌, ◌-◌, ◌==◌, ◌≡◌, ◌≢◌, ◌⊎◌, inl, inr, ◌≤◌, ◌<◌, true, false, Some, refl, sym, ap, ◌∙◌, subst, arith, List, [], ◌∷◌, ◌++◌, length, length-append, slice_get, slice_index, get_or, map, All, AllPairs, Contains}
 use Rattle.std.proofs.lemmas.Bool.{false≢true}
 use Rattle.std.proofs.lemmas.Bool.Decides.{eqb_tells, nat_tests}
 use Rattle.std.proofs.lemmas.Bool.{eqb-true}
-use Rattle.std.proofs.lemmas.Option.{slice_get-map, slice_get-get_or, slice_get_within, get_or_from_slice_get}
+use Rattle.std.proofs.lemmas.Option.{slice_get-get_or, slice_get_within, get_or_from_slice_get}
 use Rattle.std.proofs.lemmas.List.{get_or_default, get_or_append_left, get_or-append_right, length-map}
 use Rattle.std.proofs.lemmas.List.Elements.{All-append, All-weaker, All-from_get_or, Contains-get_or}
 use Rattle.p9_abs.specs.declared.instructions.AFunction.{AFunction}
 use Rattle.p9_abs.specs.declared.regions.Region.{Region}
 use Rattle.p9_abs.specs.Automatics.{is_candidate}
-use Rattle.p9_abs.specs.Regions.{IsPoint, AreJoined, IsRegion, ComesBefore, AreRegions}
-use Rattle.p9_region.specs.declared.steps.Step.{Step}
+use Rattle.p9_abs.specs.Regions.{IsPoint, AreJoined, IsRegion, ComesBefore}
 use Rattle.p9_region.specs.declared.classes.Edge.{Edge}
 use Rattle.p9_region.specs.Labels.{IsWay, AreClasses}
 use Rattle.p9_region.specs.Picking.{picked, is_root, has_label, members, region_at, groups, ArePoints}
@@ -140,7 +139,7 @@ module _ (f : AFunction) (v : ℕ) (points labels : List ℕ) (edges : List Edge
   root-at k d l = (
     picked-below (is_root labels) (length points) k d l,
     (let r = get_or (picked (is_root labels) (length points)) k d in
-    eqb-true (slice_index labels r) r (picked-from (is_root labels) (length points) r (Contains-get_or (picked (is_root labels) (length points)) k d l))),
+        eqb-true (slice_index labels r) r (picked-from (is_root labels) (length points) r (Contains-get_or (picked (is_root labels) (length points)) k d l))),
   )
 
   region-map : (g : ℕ → Region) (xs : List ℕ) (k : ℕ) (d : Region) → k < length xs → get_or (map g xs) k d ≡ g (slice_index xs k)

@@ -1,12 +1,12 @@
 -- Ways of edges between points are ways of joined points, and back.
-use Rattle.std.proofs.Common.{ℕ, zero, suc, ◌+◌, ◌≡◌, ◌⊎◌, inl, inr, ◌≤◌, ◌<◌, true, Some, refl, sym, ap, ◌∙◌, subst, arith, List, [], ◌∷◌, length, slice_get, slice_index, get_or, AllPairs, Contains}
+use Rattle.std.proofs.Common.{ℕ, ◌≡◌, ◌⊎◌, inl, inr, ◌<◌, Some, refl, sym, ap, ◌∙◌, subst, List, [], ◌∷◌, length, slice_get, slice_index}
 use Rattle.std.proofs.lemmas.List.{get_or_default}
 use Rattle.std.proofs.lemmas.List.Elements.{Contains-get_or}
 use Rattle.p9_abs.specs.declared.instructions.AFunction.{AFunction}
 use Rattle.p9_abs.specs.Regions.{IsPoint, Leads, JoinedAlong, AreJoined}
 use Rattle.p9_region.specs.declared.steps.Step.{Step}
 use Rattle.p9_region.specs.declared.classes.Edge.{Edge}
-use Rattle.p9_region.specs.Labels.{AreLinked, IsWayAlong, IsWay, AreClasses}
+use Rattle.p9_region.specs.Labels.{AreLinked, IsWayAlong, IsWay}
 use Rattle.p9_region.specs.Picking.{ArePoints, AreAdjacent, AreEdges}
 
 -- Ways of joined points

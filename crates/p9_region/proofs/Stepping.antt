@@ -1,20 +1,20 @@
 -- One region's choice, by its rank.
-use Rattle.std.proofs.Common.{ℕ, ◌+◌, ◌-◌, ◌^◌, ◌≡◌, ◌≢◌, ◌≤◌, ◌<◌, Bool, true, Option, Some, None, zero, suc, take, drop, replicate, ◌++◌, map, refl, sym, ap, ◌∙◌, subst, arith, List, [], length, slice_get, slice_index, slice_index_or, slice_set, get_or, All, Contains}
+use Rattle.std.proofs.Common.{ℕ, ◌+◌, ◌-◌, ◌^◌, ◌≡◌, ◌<◌, Bool, true, Option, Some, None, zero, suc, take, drop, replicate, ◌++◌, map, refl, sym, ap, ◌∙◌, subst, arith, List, length, slice_get, slice_index, slice_index_or, slice_set, get_or, All, Contains}
 use Rattle.std.specs.Int.{bit_at}
 use Rattle.std.proofs.lemmas.Option.{slice_get-get_or}
 use Rattle.std.proofs.lemmas.List.{length-map}
 use Rattle.std.proofs.lemmas.List.Elements.{All-from_get_or, Contains-get_or}
 use Rattle.p9_abs.specs.declared.instructions.AFunction.{AFunction}
 use Rattle.p9_abs.specs.declared.regions.Region.{Region}
-use Rattle.p9_abs.specs.Regions.{cost_of, AreSettled, IsAhead, IsHome}
+use Rattle.p9_abs.specs.Regions.{AreSettled, IsAhead, IsHome}
 use Rattle.std.specs.Option.{IfSome}
-use Rattle.p9_region.specs.Costs.{IsRanking, RanksBy, gaps_of, order_of}
+use Rattle.p9_region.specs.Costs.{IsRanking, gaps_of, order_of}
 use Rattle.p9_region.specs.Masks.{IsChosen}
 use Rattle.p9_region.specs.Greedy.{points_in, points_of, IsGreedy, AreWithin, AreOrdered}
 use Rattle.std.proofs.lemmas.List.Elements.{All-same, All-map}
 use Rattle.std.proofs.lemmas.Nat.Bits.{bit_at-zero}
 use Rattle.std.proofs.Math.Seq.{take-append_seam}
-use Rattle.p9_region.proofs.Choosing.{greedy-first, greedy-next, settled-by-order, find-region}
+use Rattle.p9_region.proofs.Choosing.{greedy-first, greedy-next, settled-by-order}
 use Rattle.p9_region.proofs.Ranking.{gap-at, order-at}
 
 abbrev Rank : Type 0
@@ -64,16 +64,16 @@ ranking-settles f rs ranking homes used r n range g =
     settled-by-order f rs (gaps_of ranking) (order_of ranking) homes used n range
     (λ number l. let w = r.every number l in (w.0, (omega (arith, w.1, same)), order-at ranking w.0 (0, 0) w.1 ∙ w.2 (0, 0)))
     (λ m p a b l h ea eb.
-        let k = below m h in
-        let em = order-at ranking m (0, 0) k in
-        let ep = order-at ranking p (0, 0) (omega (arith, l, k)) in
-        subst (λ z. IsAhead f z b (slice_index (order_of ranking) m) a) (sym ep) (subst (λ z. IsAhead f (get_or ranking p (0, 0)).1 b z a) (sym em)
-        (r.ahead m p (0, 0) a b l k (ap (slice_get rs) (sym em) ∙ ea) (ap (slice_get rs) (sym ep) ∙ eb))))
+    let k = below m h in
+    let em = order-at ranking m (0, 0) k in
+    let ep = order-at ranking p (0, 0) (omega (arith, l, k)) in
+    subst (λ z. IsAhead f z b (slice_index (order_of ranking) m) a) (sym ep) (subst (λ z. IsAhead f (get_or ranking p (0, 0)).1 b z a) (sym em)
+    (r.ahead m p (0, 0) a b l k (ap (slice_get rs) (sym em) ∙ ea) (ap (slice_get rs) (sym ep) ∙ eb))))
     (λ m a l e c.
-        let k = below m l in
-        let h = r.ranked m (0, 0) k a (ap (slice_get rs) (sym (order-at ranking m (0, 0) k)) ∙ e) in
-        let q = gap-at ranking m (0, 0) k in
-        omega (arith, h, q, c))
+    let k = below m l in
+    let h = r.ranked m (0, 0) k a (ap (slice_get rs) (sym (order-at ranking m (0, 0) k)) ∙ e) in
+    let q = gap-at ranking m (0, 0) k in
+    omega (arith, h, q, c))
     (subst (λ k. IsGreedy rs (gaps_of ranking) (order_of ranking) homes used k) (sym same) g)
   where
     same : length (order_of ranking) ≡ length ranking

@@ -1,23 +1,20 @@
 -- What steps and rows tell of the points of a candidate, and of the ways between them.
-use Rattle.std.proofs.Common.{ℕ, zero, suc, ◌+◌, ◌*◌, ◌/◌, ◌%◌, ◌==◌, ◌&&◌, ◌||◌, ◌≡◌, ◌≢◌, ◌⊎◌, ◌↔◌, inl, inr, ◌≤◌, ◌<◌, nat_lt, Bool, true, false, not, Option, Some, None, option_map, option_and_then, refl, sym, ap, ◌∙◌, subst, arith, rules, List, [], ◌∷◌, length, slice_get, slice_index, get_or, map, All, AllPairs, Contains}
+use Rattle.std.proofs.Common.{ℕ, zero, suc, ◌+◌, ◌*◌, ◌/◌, ◌%◌, ◌==◌, ◌&&◌, ◌||◌, ◌≡◌, ◌⊎◌, ◌↔◌, inl, inr, ◌<◌, nat_lt, Bool, true, false, not, Option, Some, None, option_map, option_and_then, refl, sym, ap, ◌∙◌, subst, arith, rules, List, [], ◌∷◌, length, slice_get, slice_index, map}
 use Rattle.std.specs.Int.{bit_at}
-use Rattle.std.proofs.lemmas.Bool.{true≢false, false≢true, and_parts, or_cases, eqb-true}
-use Rattle.std.proofs.lemmas.Bool.Decides.{eqb_tells}
-use Rattle.std.proofs.lemmas.Option.{slice_get_within, slice_get-map}
+use Rattle.std.proofs.lemmas.Bool.{false≢true, and_parts, or_cases, eqb-true}
+use Rattle.std.proofs.lemmas.Option.{slice_get-map}
 use Rattle.std.proofs.lemmas.List.{length-map}
 use Rattle.p9_abs.specs.declared.instructions.Abs.{Abs}
 use Rattle.p9_abs.specs.declared.instructions.AFunction.{AFunction}
 use Rattle.p9_abs.specs.declared.forms.Form.{Form}
 use Rattle.p9_abs.specs.declared.forms.Form.TheVariants as forms
 use Rattle.p9_abs.specs.Forms.{decoded}
-use Rattle.p9_abs.specs.Automatics.{form_at, holds_of, flows, falls, goes_to, calls_in, call_at, writes, writes_at, is_candidate, IsLive}
+use Rattle.p9_abs.specs.Automatics.{form_at, holds_of, falls, goes_to, calls_in, writes, writes_at, is_candidate, IsLive}
 use Rattle.p9_abs.specs.Regions.{IsPoint, Leads}
-use Rattle.p9_flow.specs.declared.rows.Rows.{Rows}
 use Rattle.p9_flow.specs.Acts.{jump_of, written_of}
-use Rattle.p9_flow.specs.Rows.{words_for, AreLiveRows}
 use Rattle.p9_flow.proofs.Meaning.{writes-is, jumps-is, eqb-same}
 use Rattle.p9_region.specs.declared.steps.Step.{Step}
-use Rattle.p9_region.specs.Picking.{picked, step_of, GoesOn, is_it, live_bit, written_in, point_bit, ArePoints, AreAdjacent}
+use Rattle.p9_region.specs.Picking.{step_of, GoesOn, is_it, live_bit, written_in, point_bit, ArePoints, AreAdjacent}
 use Rattle.p9_region.specs.Finding.{points_in}
 use Rattle.p9_region.proofs.Picks.{picked-rising, picked-has, picked-from, picked-within}
 use Rattle.p9_region.proofs.Within.{point-within}
@@ -179,8 +176,8 @@ module _ (f : AFunction) (steps : List Step) (bits : List ℕ) (width v : ℕ) (
         pk,
         goes-no-call (form_at f.code (slice_index points k)) (slice_index points k) (slice_index points m) go,
         ap (λ t. t && holds_of (λ form. (falls form && (slice_index points m == slice_index points k + 1)) || goes_to (slice_index points m) form) (form_at f.code (slice_index points k)))
-        (ltb-is (slice_index points m) (length f.code) l)
-        ∙ goes-flows (form_at f.code (slice_index points k)) (slice_index points k) (slice_index points m) go,
+            (ltb-is (slice_index points m) (length f.code) l)
+            ∙ goes-flows (form_at f.code (slice_index points k)) (slice_index points k) (slice_index points m) go,
         bit-live (slice_index points m) l b,
       )
 

@@ -1,5 +1,5 @@
 -- The points of regions are instructions of the code.
-use Rattle.std.proofs.Common.{ℕ, zero, suc, ◌+◌, ◌==◌, ◌&&◌, ◌||◌, ◌≡◌, ◌⊎◌, inl, inr, ◌<◌, nat_lt, Bool, true, false, Option, Some, None, option_and_then, refl, sym, ap, ◌∙◌, subst, arith, List, [], ◌∷◌, length, slice_get, All, Contains, get_or}
+use Rattle.std.proofs.Common.{ℕ, ◌+◌, ◌==◌, ◌&&◌, ◌||◌, ◌≡◌, inl, inr, ◌<◌, nat_lt, Bool, true, Option, Some, None, option_and_then, refl, sym, ap, ◌∙◌, subst, arith, List, [], ◌∷◌, length, slice_get, All}
 use Rattle.std.proofs.lemmas.Bool.{false≢true, and_parts}
 use Rattle.std.proofs.lemmas.Option.{slice_get_within, get_or_from_slice_get}
 use Rattle.std.proofs.lemmas.List.Elements.{All-contains}
@@ -8,9 +8,9 @@ use Rattle.p9_abs.specs.declared.instructions.AFunction.{AFunction}
 use Rattle.p9_abs.specs.declared.regions.Region.{Region}
 use Rattle.p9_abs.specs.declared.forms.Form.{Form}
 use Rattle.p9_abs.specs.Forms.{decoded}
-use Rattle.p9_abs.specs.Automatics.{form_at, holds_of, flows, falls, goes_to, reads, writes, IsReadAlong, IsLive}
+use Rattle.p9_abs.specs.Automatics.{form_at, holds_of, falls, goes_to, reads, writes, IsReadAlong}
 use Rattle.p9_abs.specs.Regions.{IsPoint, IsRegion}
-use Rattle.p9_region.specs.Greedy.{points_of, AreWithin}
+use Rattle.p9_region.specs.Greedy.{AreWithin}
 use Rattle.p9_region.proofs.Choosing.{find-region}
 
 holds-within : (code : List Abs) (i : ℕ) (test : Form → Bool) → holds_of test (form_at code i) ≡ true → i < length code

@@ -1,6 +1,6 @@
 -- The cost of a point by the code and its depths (`cost_in`), and ranks by which regions choose
 -- homes (`IsRanking`).
-use Rattle.std.specs.Prelude.{ℕ, ◌+◌, ◌-◌, ◌*◌, ◌^◌, ◌||◌, ◌≡◌, ◌≢◌, ◌<◌, ◌≤◌, min, Bool, Option, Some, List, length, map, slice_get, slice_index, slice_index_or, Contains, if◌then◌else◌}
+use Rattle.std.specs.Prelude.{ℕ, ◌+◌, ◌-◌, ◌^◌, ◌||◌, ◌≡◌, ◌≢◌, ◌<◌, min, Some, List, length, map, slice_get, slice_index, slice_index_or, if◌then◌else◌}
 use Rattle.p9_abs.specs.declared.instructions.Abs.{Abs}
 use Rattle.p9_abs.specs.declared.instructions.AFunction.{AFunction}
 use Rattle.p9_abs.specs.declared.regions.Region.{Region}

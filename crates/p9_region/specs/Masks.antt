@@ -1,6 +1,6 @@
 -- Masks of the homes that are taken at each instruction: bit g stands for R9 and g more
 -- (`IsUnion`, `AreMarked`, `IsChosen`).
-use Rattle.std.specs.Prelude.{ℕ, ◌+◌, ◌-◌, ◌≡◌, ◌≢◌, ◌⊎◌, ◌≤◌, ◌<◌, Bool, true, Option, Some, None, List, length, slice_index, Contains}
+use Rattle.std.specs.Prelude.{ℕ, ◌-◌, ◌≡◌, ◌≢◌, ◌⊎◌, ◌≤◌, ◌<◌, Bool, true, Option, Some, None, List, length, slice_index, Contains}
 use Rattle.std.specs.Int.{bit_at}
 
 -- the bits of a mask are those that are set at some of the points

@@ -28,7 +28,10 @@ fn word_at(bits: &[u64], i: usize) -> u64
 pub(crate) fn is_live(bits: &[u64], width: u32, v: u32, i: u32) -> bool
     ensures { result ≡ live_bit bits.now width v i }
 {
-    bit_of(word_at(bits, i as usize * width as usize + (v / 64) as usize), v)
+    bit_of(
+        word_at(bits, i as usize * width as usize + (v / 64) as usize),
+        v,
+    )
 }
 
 fn is_it(v: u32, automatic: Option<u32>) -> bool

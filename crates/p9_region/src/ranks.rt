@@ -10,11 +10,7 @@ use p9_base::NoMemory;
 use std::alloc::Global;
 
 // What each region saves, counted down from the greatest number, and the region's number.
-fn unsorted(
-    alloc: Global,
-    f: &AFunction,
-    regions: &[Region],
-) -> Result<Vec<(u64, u32)>, NoMemory>
+fn unsorted(alloc: Global, f: &AFunction, regions: &[Region]) -> Result<Vec<(u64, u32)>, NoMemory>
     requires { All (IsRegion f.now) regions.now }
     ensures { IfOk result (λ ranks. AreRanks f.now regions.now (length regions.now) ranks.items) }
 {

@@ -29,9 +29,24 @@ fn function(alloc: Global, autos: usize, depth: u8, list: Vec<Abs>) -> Result<AF
 // Stores 1 and reads it.
 fn stored_and_read(alloc: Global, depth: u8) -> Result<AFunction, NoMemory> {
     let mut code = Vec::new(alloc);
-    push(alloc, &mut code, Op::MovW, &[Operand::Const(1), Operand::Reg(1)])?;
-    push(alloc, &mut code, Op::MovW, &[Operand::Reg(1), Operand::Auto(0, 0)])?;
-    push(alloc, &mut code, Op::MovW, &[Operand::Auto(0, 0), Operand::Reg(2)])?;
+    push(
+        alloc,
+        &mut code,
+        Op::MovW,
+        &[Operand::Const(1), Operand::Reg(1)],
+    )?;
+    push(
+        alloc,
+        &mut code,
+        Op::MovW,
+        &[Operand::Reg(1), Operand::Auto(0, 0)],
+    )?;
+    push(
+        alloc,
+        &mut code,
+        Op::MovW,
+        &[Operand::Auto(0, 0), Operand::Reg(2)],
+    )?;
     push(alloc, &mut code, Op::Ret, &[])?;
     function(alloc, 1, depth, code)
 }
@@ -61,10 +76,20 @@ fn thirteen_regions(rt: HostRuntime) -> Result<(), Fail> {
     let alloc = rt.alloc();
     let mut code = Vec::new(alloc);
     for v in 0..13 {
-        push(alloc, &mut code, Op::MovW, &[Operand::Reg(1), Operand::Auto(v, 0)])?;
+        push(
+            alloc,
+            &mut code,
+            Op::MovW,
+            &[Operand::Reg(1), Operand::Auto(v, 0)],
+        )?;
     }
     for v in 0..13 {
-        push(alloc, &mut code, Op::MovW, &[Operand::Auto(v, 0), Operand::Reg(1)])?;
+        push(
+            alloc,
+            &mut code,
+            Op::MovW,
+            &[Operand::Auto(v, 0), Operand::Reg(1)],
+        )?;
     }
     push(alloc, &mut code, Op::Ret, &[])?;
     let f = function(alloc, 13, 0, code)?;
@@ -73,8 +98,19 @@ fn thirteen_regions(rt: HostRuntime) -> Result<(), Fail> {
     assert_eq!(rt; found.list.len(), 13);
     let homes = assign(alloc, &f, &found)?;
     let want = [
-        Some(9u8), Some(10), Some(11), Some(12), Some(13), Some(14), Some(15), Some(16), Some(17),
-        Some(18), Some(19), Some(20), None,
+        Some(9u8),
+        Some(10),
+        Some(11),
+        Some(12),
+        Some(13),
+        Some(14),
+        Some(15),
+        Some(16),
+        Some(17),
+        Some(18),
+        Some(19),
+        Some(20),
+        None,
     ];
     assert_eq!(rt; homes.list.as_slice(), want.as_slice());
     Ok(())
@@ -85,11 +121,31 @@ fn thirteen_regions(rt: HostRuntime) -> Result<(), Fail> {
 fn divided_by_a_call(rt: HostRuntime) -> Result<(), Fail> {
     let alloc = rt.alloc();
     let mut code = Vec::new(alloc);
-    push(alloc, &mut code, Op::MovW, &[Operand::Reg(1), Operand::Auto(0, 0)])?;
-    push(alloc, &mut code, Op::Beq, &[Operand::Reg(1), Operand::Reg(0), Operand::Label(3)])?;
-    push(alloc, &mut code, Op::MovW, &[Operand::Reg(2), Operand::Auto(0, 0)])?;
+    push(
+        alloc,
+        &mut code,
+        Op::MovW,
+        &[Operand::Reg(1), Operand::Auto(0, 0)],
+    )?;
+    push(
+        alloc,
+        &mut code,
+        Op::Beq,
+        &[Operand::Reg(1), Operand::Reg(0), Operand::Label(3)],
+    )?;
+    push(
+        alloc,
+        &mut code,
+        Op::MovW,
+        &[Operand::Reg(2), Operand::Auto(0, 0)],
+    )?;
     push(alloc, &mut code, Op::Jal, &[Operand::Func(0)])?;
-    push(alloc, &mut code, Op::MovW, &[Operand::Auto(0, 0), Operand::Reg(1)])?;
+    push(
+        alloc,
+        &mut code,
+        Op::MovW,
+        &[Operand::Auto(0, 0), Operand::Reg(1)],
+    )?;
     push(alloc, &mut code, Op::Ret, &[])?;
     let f = function(alloc, 1, 0, code)?;
     let rows = live(alloc, &f)?;

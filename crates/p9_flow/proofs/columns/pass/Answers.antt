@@ -1,4 +1,4 @@
-use Rattle.std.proofs.Common.{◌≡◌, ◌+◌, ◌<◌, ℕ, Bool, true, length, refl, sym, subst, arith, slice_index}
+use Rattle.std.proofs.Common.{◌≡◌, ◌+◌, ◌<◌, Bool, length, refl, sym, subst, arith, slice_index}
 use Rattle.std.proofs.lemmas.Option.{slice_get-get_or}
 use Rattle.p9_flow.specs.Columns.{IsVisited}
 use Rattle.p9_flow.proofs.Passing.{visited-same, visited-more, visited-closed}

@@ -1,4 +1,4 @@
-use Rattle.std.proofs.Common.{arith, ◌≡◌, ◌<◌, ◌+◌, ℕ, suc, length, subst, sym, refl, All, ◌∙◌, ap}
+use Rattle.std.proofs.Common.{arith, ◌≡◌, ◌<◌, length, subst, refl, All, ◌∙◌, ap}
 use Rattle.p9_flow.proofs.Ordering.{named-kept, each-more}
 use Rattle.p9_flow.proofs.order.completed.Goals as goal
 

@@ -1,4 +1,4 @@
-use Rattle.std.proofs.Common.{◌≡◌, ◌<◌, ℕ, length, All, Contains}
+use Rattle.std.proofs.Common.{◌<◌, ℕ, All, Contains}
 use Rattle.p9_flow.specs.Columns.{AreNamed}
 use Rattle.p9_flow.proofs.order.completed.Given as goal
 

@@ -1,4 +1,4 @@
-use Rattle.std.proofs.Common.{arith, refl, rules, length, slice_index, ◌∙◌}
+use Rattle.std.proofs.Common.{arith, refl, rules, slice_index, ◌∙◌}
 use Rattle.std.proofs.lemmas.List.{length-set}
 use Rattle.std.proofs.lemmas.List.Elements.{Contains-get_or}
 use Rattle.p9_flow.proofs.Ordering.{named-none, named-more}

@@ -1,4 +1,4 @@
-use Rattle.std.proofs.Common.{arith, ap, ◌∙◌, ◌+◌, ◌≡◌, ◌++◌, [], ◌∷◌, length, length-append}
+use Rattle.std.proofs.Common.{ap, ◌∙◌, ◌+◌, ◌≡◌, ◌++◌, [], ◌∷◌, length, length-append}
 use Rattle.p9_flow.proofs.Tabling.{columns-none, columns-push}
 use Rattle.p9_flow.proofs.rows.columns.Goals as goal
 

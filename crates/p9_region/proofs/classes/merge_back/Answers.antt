@@ -13,6 +13,6 @@ join-requires-clause-to c = to-within c.args.edges.now (length c.args.labels.now
 pub loop-i-preserved : goal.loop-i-preserved
 loop-i-preserved c =
     let w =
-        back-step c.args.edges.now c.loop-i.labels c.join.new.labels (c.loop-i.i - 1) _ (subst (AreWithinNumber c.args.edges.now) (sym c.loop-i.auto.labels) c.requires.within)
-        (slice_get-get_or c.args.edges.now (c.loop-i.i - 1) _ (omega arith)) (either c.join.result c.join.ensures.same c.join.ensures.less) c.loop-i.invariant.1 in
+    back-step c.args.edges.now c.loop-i.labels c.join.new.labels (c.loop-i.i - 1) _ (subst (AreWithinNumber c.args.edges.now) (sym c.loop-i.auto.labels) c.requires.within)
+    (slice_get-get_or c.args.edges.now (c.loop-i.i - 1) _ (omega arith)) (either c.join.result c.join.ensures.same c.join.ensures.less) c.loop-i.invariant.1 in
     (omega arith, w.1, omega (arith, w.2))

@@ -1,4 +1,4 @@
-use Rattle.std.proofs.Common.{◌≡◌, ◌≤◌, length, sum}
+use Rattle.std.proofs.Common.{◌≤◌, length, sum}
 use Rattle.p9_region.specs.Labels.{AreLabels}
 use Rattle.p9_region.proofs.classes.merge_back.Given as goal
 

@@ -1,4 +1,4 @@
-use Rattle.std.proofs.Common.{ℕ, ◌<◌, ◌^◌, arith, slice_index}
+use Rattle.std.proofs.Common.{◌<◌, ◌^◌, arith, slice_index}
 use Rattle.p9_region.proofs.Costing.{total-fits}
 use Rattle.p9_region.proofs.costs.cost_over.Goals as goal
 

@@ -1,4 +1,4 @@
-use Rattle.std.proofs.Common.{◌≡◌, ◌≤◌, ◌<◌, ◌∙◌, ap, sym, subst, arith, ℕ, length, All, AllPairs}
+use Rattle.std.proofs.Common.{◌<◌, ap, sym, subst, arith, length, All, AllPairs}
 use Rattle.p9_region.specs.Picking.{point_bit}
 use Rattle.p9_region.proofs.Picks.{picked-below, picked-rising, picked-length}
 use Rattle.p9_region.proofs.Targets.{edges-within}

@@ -1,4 +1,4 @@
-use Rattle.std.proofs.Common.{◌≡◌, All, length}
+use Rattle.std.proofs.Common.{All}
 use Rattle.std.specs.Option.{IfSome}
 use Rattle.p9_abs.specs.Regions.{IsHome}
 use Rattle.p9_region.specs.Costs.{gaps_of, order_of}

@@ -1,7 +1,6 @@
-use Rattle.std.proofs.Common.{◌≡◌, sym, ap, ◌∙◌, subst, arith, List, Option, None, ℕ, length, replicate, All}
-use Rattle.std.specs.Option.{IfSome}
+use Rattle.std.proofs.Common.{sym, ap, ◌∙◌, subst, arith, None, length}
 use Rattle.std.proofs.lemmas.List.{length-replicate, length-map}
-use Rattle.p9_abs.specs.Regions.{AreSettled, IsHome}
+use Rattle.p9_abs.specs.Regions.{AreSettled}
 use Rattle.p9_region.specs.Costs.{IsRanking, order_of}
 use Rattle.p9_region.specs.Greedy.{AreWithin, AreOrdered}
 use Rattle.p9_region.proofs.Stepping.{ranking-settles, ranking-ordered, greedy-start, range-start, taken-back}
