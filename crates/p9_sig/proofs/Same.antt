@@ -42,9 +42,6 @@ same_once (c ∷ cs) a b h met v w e f = by (is_among met (c ∷ cs)) ((writes (
     by true again e f = cc
     by false again e f = h (met ++ (c ∷ cs) ∷ []) v w e f
 
-abbrev AllAgree : (f : (d : ℕ) → Bool) → Type 0
-AllAgree f = (d : ℕ) → f d ≡ true
-
 same_keywords : (u v : Bool) → same_keyword u v ≡ true → u ≡ v
 same_keywords true true e = refl
 same_keywords true false e = sym e

@@ -11,13 +11,6 @@ use Rattle.p9_sig.specs.Examples.{node, edge, node_first}
 use Rattle.p9_sig.specs.TypesInRange.{IsOver}
 use Rattle.p9_sig.proofs.Shapes.{type_of_int, type_of_function}
 
-pub none_valid : AreValid []
-none_valid = record {
-  in_range = refl;
-  none_contains_itself = λ i lt. absurd (omega arith);
-  cycles_are_named = λ i lt. absurd (omega arith);
-}
-
 node_first_ends : (i : ℕ) → i < 2 → Ends 2 node_first i
 node_first_ends zero lt = (tt, (tt, tt))
 node_first_ends (suc zero) lt = (tt, tt)

@@ -12,8 +12,8 @@ pub fn texts_tell_types()
     ensures { TextsTellTypes }
 {}
 
-/// The texts of small types, computed: structures that name each other in either order, marked ones,
-/// ones without a body or a tag, unions, functions and arrays.
+/// The texts of small types, computed: structures that name each other in either order, marked
+/// ones, ones without a body or a tag, unions, functions and arrays.
 #[tactic(auto, using(crate::proofs::Examples::texts))]
 pub fn text_examples()
     ensures { Texts }

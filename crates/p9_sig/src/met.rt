@@ -34,7 +34,8 @@ impl MetTags {
     /// Meets a tag. The answer is whether that is for the first time.
     pub(crate) fn meet(&mut self, alloc: Global, name: &Ident) -> Result<bool, NoMemory>
         ensures first { IfOk result (λ first. first ≡ not (is_among self.old name.now)) }
-        ensures met { IfOk result (λ first. self.new ≡ (if first then self.old ++ name.now ∷ [] else self.old)) }
+        ensures met { IfOk result (λ first.
+            self.new ≡ (if first then self.old ++ name.now ∷ [] else self.old)) }
     {
         let name = Name {
             list: Vec::from_slice(alloc, name.list.as_slice())?,

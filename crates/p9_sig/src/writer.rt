@@ -42,7 +42,8 @@ struct Writer<'a> {
 impl<'a> Writer<'a> {
     fn put(&mut self, text: &[u8]) -> Result<(), NoMemory>
         ensures then { OnOk result (Puts self.old self.new text.now) }
-        ensures grows { OnOk result (length self.new.text.items ≡ length self.old.text.items + length text.now) }
+        ensures grows { OnOk result
+            (length self.new.text.items ≡ length self.old.text.items + length text.now) }
     {
         self.text.extend_from_slice(text)?;
         Ok(())
@@ -80,7 +81,8 @@ impl<'a> Writer<'a> {
         parameters: &'a [CType],
         result_type: &'a CType,
     ) -> Result<(), NoMemory>
-        ensures then { OnOk result (TakesOn self.old self.new (λ tag. parameters_text tag parameters.now result_type.now)) }
+        ensures then { OnOk result (TakesOn self.old self.new (λ tag.
+            parameters_text tag parameters.now result_type.now)) }
         ensures grows { OnOk result (length self.old.text.items ≤ length self.new.text.items) }
     {
         match parameters {
@@ -99,7 +101,8 @@ impl<'a> Writer<'a> {
 
     // The next member, or the end of the body behind the last.
     fn write_members(&mut self, members: &'a [Member], is_union: bool) -> Result<(), NoMemory>
-        ensures then { OnOk result (TakesOn self.old self.new (λ tag. rest_of_body tag members.now is_union)) }
+        ensures then { OnOk result (TakesOn self.old self.new (λ tag.
+            rest_of_body tag members.now is_union)) }
         ensures grows { OnOk result (length self.old.text.items ≤ length self.new.text.items) }
     {
         match members {
@@ -154,7 +157,8 @@ impl<'a> Writer<'a> {
     }
 
     fn write_tag(&mut self, alloc: Global, tag: &'a Tag) -> Result<(), NoMemory>
-        ensures then { OnOk result (TakesOn self.old self.new (λ part. tag_text_by part (Some (tag_of tag.now)))) }
+        ensures then { OnOk result (TakesOn self.old self.new (λ part.
+            tag_text_by part (Some (tag_of tag.now)))) }
         ensures grows { OnOk result (length self.old.text.items < length self.new.text.items) }
     {
         if is_nameless(tag) {
