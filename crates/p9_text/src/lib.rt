@@ -1,0 +1,13 @@
+//! The functions of modules in the order of the text, what they weigh, and where each begins among
+//! the instructions.
+#![tactic(auto)]
+
+mod entries;
+mod program;
+mod routines;
+mod weighing;
+
+pub use entries::{Entries, Key};
+pub use program::Program;
+pub use routines::{Routine, routines};
+pub use weighing::{TextFault, instruction_words, text_words};
