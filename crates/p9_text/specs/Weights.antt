@@ -2,8 +2,8 @@
 use Rattle.std.specs.Prelude.{ℕ, ◌+◌, ◌≡◌, ◌<◌, List, sum_by}
 use Rattle.p9_abs.specs.Forms.{weight_of, entry_weight, start_weight}
 use Rattle.p9_abs.specs.Runs.{Routine}
-use Rattle.p9_text.specs.declared.weighing.TextFault.{TextFault}
-use Rattle.p9_text.specs.declared.weighing.TextFault.TheVariants.{TextTooLarge, Memory}
+use Rattle.p9_text.specs.declared.weighing.ExpandFault.{ExpandFault}
+use Rattle.p9_text.specs.declared.weighing.ExpandFault.TheVariants.{TextTooLarge, Memory}
 
 -- a function: its instructions and its entry
 abbrev pub routine_weight : Routine → ℕ
@@ -18,6 +18,6 @@ abbrev pub text_limit : ℕ
 text_limit = 4194304
 
 -- so many words are too many, or memory ran out
-abbrev pub IsTooLarge : ℕ → TextFault → Type 0
+abbrev pub IsTooLarge : ℕ → ExpandFault → Type 0
 IsTooLarge words (TextTooLarge n) = (n ≡ words) × (text_limit < n)
 IsTooLarge words Memory = Unit {0}

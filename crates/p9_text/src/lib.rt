@@ -10,4 +10,4 @@ mod weighing;
 pub use entries::{Entries, Key};
 pub use program::Program;
 pub use routines::{Routine, routines};
-pub use weighing::{TextFault, instruction_words, text_words};
+pub use weighing::{ExpandFault, instruction_words, text_words};

@@ -1,8 +1,8 @@
 // What the text weighs, in machine words.
 ghost use Rattle.std.specs.Prelude.{◌≡◌, ◌≢◌, ◌⊎◌, ◌≤◌, ◌+◌, Err, IsOk, IfOk, IfErr, IfSome, sum_by};
 ghost use Rattle.p9_abs.specs.Forms.{weight_of, start_weight};
-ghost use Rattle.p9_text.specs.declared.weighing.TextFault.{TextFault};
-ghost use Rattle.p9_text.specs.declared.weighing.TextFault.TheVariants.{Memory};
+ghost use Rattle.p9_text.specs.declared.weighing.ExpandFault.{ExpandFault};
+ghost use Rattle.p9_text.specs.declared.weighing.ExpandFault.TheVariants.{Memory};
 ghost use Rattle.p9_text.specs.Weights.{routine_weight, text_weight, text_limit, IsTooLarge};
 
 use crate::routines::Routine;
@@ -15,21 +15,21 @@ const TEXT_LIMIT: u64 = 4_194_304;
 
 /// Why functions make no text.
 #[derive(Debug, Drop, Error)]
-pub enum TextFault {
+pub enum ExpandFault {
     #[error("instructions and entries weigh {0} words")]
     TextTooLarge(u64),
     #[error("out of memory")]
     Memory,
 }
 
-impl From<NoMemory> for TextFault {
+impl From<NoMemory> for ExpandFault {
     ghost use Rattle.std.specs.Prelude.{◌≡◌};
-    ghost use Rattle.p9_text.specs.declared.weighing.TextFault.TheVariants.{Memory};
+    ghost use Rattle.p9_text.specs.declared.weighing.ExpandFault.TheVariants.{Memory};
 
     ghost from_gives = { λ _ fault. fault ≡ Memory };
 
-    fn from(_: NoMemory) -> TextFault {
-        TextFault::Memory
+    fn from(_: NoMemory) -> ExpandFault {
+        ExpandFault::Memory
     }
 }
 
@@ -77,27 +77,27 @@ fn all_words(routines: &[Routine]) -> Option<u64>
 }
 
 // The words, where they are not too many.
-fn weighed(routines: &[Routine]) -> Result<u32, TextFault>
+fn weighed(routines: &[Routine]) -> Result<u32, ExpandFault>
     ensures words { IfOk result (λ n. n ≡ text_weight routines.now) }
     ensures fits { IfOk result (λ n. n ≤ text_limit) }
     ensures refused { IfErr result (IsTooLarge (text_weight routines.now)) }
 {
-    let words = all_words(routines).ok_or(TextFault::Memory)?;
+    let words = all_words(routines).ok_or(ExpandFault::Memory)?;
     if words > TEXT_LIMIT {
-        return Err(TextFault::TextTooLarge(words));
+        return Err(ExpandFault::TextTooLarge(words));
     }
     Ok(words as u32)
 }
 
 /// The words of the start and of functions with their entries, where these are not too many. Want of
 /// memory may come at any place.
-pub fn text_words(routines: &[Routine]) -> Result<u32, TextFault>
+pub fn text_words(routines: &[Routine]) -> Result<u32, ExpandFault>
     ensures words { IfOk result (λ n. n ≡ text_weight routines.now) }
     ensures fits { IfOk result (λ n. n ≤ text_limit) }
     ensures refused { IfErr result (IsTooLarge (text_weight routines.now)) }
 
     // The cause is the answer where it holds, and the words else, unless memory ran out.
-    ensures refused_exactly { (fault : TextFault) → fault ≢ Memory → IsTooLarge (text_weight routines.now) fault → (result ≡ Err fault) ⊎ (result ≡ Err Memory) }
+    ensures refused_exactly { (fault : ExpandFault) → fault ≢ Memory → IsTooLarge (text_weight routines.now) fault → (result ≡ Err fault) ⊎ (result ≡ Err Memory) }
     ensures weighed_exactly { text_weight routines.now ≤ text_limit → IsOk result ⊎ (result ≡ Err Memory) }
 {
     weighed(routines)

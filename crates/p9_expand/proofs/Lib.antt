@@ -1,0 +1,5 @@
+pub mod Sums
+pub mod Standing
+pub mod Marks
+pub mod Piecing
+pub mod Basing

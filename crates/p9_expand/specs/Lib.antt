@@ -1,0 +1,5 @@
+pub mod Settings
+pub mod Pieces
+pub mod Spots
+pub mod Expanded
+pub mod Laid
