@@ -5,6 +5,7 @@ use Rattle.std.specs.List.{list_any}
 use Rattle.p9_abs.specs.declared.modules.AModule.{AModule}
 use Rattle.p9_abs.specs.declared.modules.Def.{Def}
 use Rattle.p9_abs.specs.Names.{is_number}
+use Rattle.p9_abs.specs.Runs.{Routine}
 use Rattle.p9_abs.specs.BuiltIn.{linked}
 use Rattle.p9_abs.specs.Programs.{inits_of, offset_in, routines_of}
 use Rattle.p9_r3k.specs.declared.lines.Line.{Line}
@@ -21,26 +22,15 @@ base_def modules = record { «module» = length modules; symbol = 1 }
 abbrev pub base_offset : List AModule → ℕ
 base_offset modules = offset_from (unwrap_or (offset_in 0 (inits_of (linked modules)) (base_def modules)) 0)
 
-abbrev pub start_of : List AModule → List Line
-start_of modules = start_lines (length modules) 1 (base_offset modules)
-
--- The text
-
-abbrev pub pieces_of : List AModule → List (List Line)
-pieces_of modules = text_pieces (linked modules) (entry_number (routines_of modules) 0) 0 (routines_of modules)
-
-abbrev pub firsts_of : List AModule → List ℕ
-firsts_of modules = firsts_from 2 (pieces_of modules)
-
-abbrev pub heads_of : List AModule → List ℕ
-heads_of modules = heads_from (linked modules) (entry_number (routines_of modules) 0) 2 0 (routines_of modules)
-
 -- a line whose target is the first line of the piece that it goes to
 abbrev pub aimed : List ℕ → Line → Line
 aimed firsts line = record line { target = option_and_then (slice_get firsts) line.target }
 
-abbrev pub aimed_lines : List AModule → List Line
-aimed_lines modules = map (aimed (firsts_of modules)) (start_of modules ++ joined (pieces_of modules))
+-- the start, by the address of its unit's symbol 1 and an offset, and the pieces of functions
+abbrev pub aimed_lines : List AModule → (Def → Option ℕ) → List Routine → (unit offset : ℕ) → List Line
+aimed_lines ms entry rs unit offset =
+    (let pieces = text_pieces ms entry 0 rs in
+    map (aimed (firsts_from 2 pieces)) (start_lines unit 1 offset ++ joined pieces))
 
 -- Marks
 
@@ -54,6 +44,14 @@ abbrev pub marked_from : (ℕ → Bool) → ℕ → List Line → List Line
 marked_from mark i [] = []
 marked_from mark i (line ∷ rest) = record line { is_target = mark i } ∷ marked_from mark (i + 1) rest
 
+abbrev pub marked : List ℕ → List Line → List Line
+marked heads lines = marked_from (λ i. is_head heads i || is_named lines i) 0 lines
+
+-- Programs
+
+abbrev pub lines_by : List AModule → (Def → Option ℕ) → List Routine → (unit offset : ℕ) → List Line
+lines_by ms entry rs unit offset = marked (heads_from ms entry 2 0 rs) (aimed_lines ms entry rs unit offset)
+
 abbrev pub expanded : List AModule → List Line
 expanded modules =
-    marked_from (λ i. is_head (heads_of modules) i || is_named (aimed_lines modules) i) 0 (aimed_lines modules)
+    lines_by (linked modules) (entry_number (routines_of modules) 0) (routines_of modules) (length modules) (base_offset modules)

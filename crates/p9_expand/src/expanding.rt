@@ -1,13 +1,16 @@
 // The lines of whole programs.
-ghost use Rattle.std.specs.Prelude.{◌≡◌, ◌≢◌, ◌⊎◌, ◌<◌, ◌≤◌, ◌+◌, ◌-◌, ◌%◌, ◌^◌, ◌++◌, ◌∷◌, [], Err, Some, IsOk, IfOk, IfErr, All, length, unwrap_or};
-ghost use Rattle.p9_abs.specs.BuiltIn.{linked, builtin_module};
+ghost use Rattle.std.specs.Prelude.{◌≡◌, ◌≢◌, ◌⊎◌, ◌<◌, ◌≤◌, ◌^◌, ◌++◌, Err, IsOk, IfOk, IfErr, All, length, unwrap_or};
+ghost use Rattle.p9_abs.specs.BuiltIn.{linked};
 ghost use Rattle.p9_abs.specs.Programs.{inits_of, routines_of};
 ghost use Rattle.p9_names.specs.Linking.{IsTable, ChoosesAll};
 ghost use Rattle.p9_place.specs.Places.{spots};
 ghost use Rattle.p9_text.specs.declared.weighing.ExpandFault.{ExpandFault};
 ghost use Rattle.p9_text.specs.declared.weighing.ExpandFault.TheVariants.{Memory};
 ghost use Rattle.p9_text.specs.Weights.{text_weight, text_limit, IsTooLarge};
-ghost use Rattle.p9_expand.specs.Expanded.{expanded};
+ghost use Rattle.p9_lines.specs.FormLines.{start_lines};
+ghost use Rattle.p9_text.specs.Entries.{held};
+ghost use Rattle.p9_expand.specs.Pieces.{text_pieces, joined, firsts_from, heads_from};
+ghost use Rattle.p9_expand.specs.Expanded.{lines_by, expanded};
 ghost use Rattle.p9_expand.specs.Spots.{offset_among, offset_from};
 
 use crate::goals::Scene;
@@ -85,4 +88,62 @@ fn lines(
     let laid = laid_lines(alloc, scene, routines, unit, offset)?;
     let aimed = aimed_lines(alloc, &laid.lines, &laid.firsts)?;
     marked(alloc, &aimed, &laid.heads)
+}
+
+// The lines of all functions.
+fn expand_all(
+    alloc: Global,
+    modules: &[AModule],
+    table: &Table,
+    places: &Places,
+) -> Result<Vec<Line>, ExpandFault>
+    requires count { length modules.now < 2 ^ 32 }
+    requires small { All (λ m. length m.symbols < 2 ^ 32) modules.now }
+    requires table { IsTable (linked modules.now) table.now.defs.entries }
+    requires chosen { ChoosesAll (linked modules.now) table.now.defs.entries }
+    requires places { places.now.inits.items ≡ spots 0 (inits_of (linked modules.now)) }
+    ensures lines { IfOk result (λ lines. lines.items ≡ expanded modules.now) }
+    ensures fits { IfOk result (λ _. text_weight (routines_of modules.now) ≤ text_limit) }
+    ensures refused { IfErr result (IsTooLarge (text_weight (routines_of modules.now))) }
+{
+    let last = builtin(alloc)?;
+    let routines = routines(alloc, modules, &last)?;
+    text_words(&routines)?;
+    let scene = Scene {
+        program: Program::new(modules, &last),
+        table,
+        entries: Entries::new(alloc, &routines)?,
+    };
+    let unit = modules.len() as u32;
+    let def = Def {
+        module: unit,
+        symbol: 1,
+    };
+    let offset = offset_of(&places.inits, def);
+    Ok(lines(alloc, &scene, &routines, unit, offset)?)
+}
+
+/// Expands the instructions of the modules and of the built-in one to machine lines. Want of memory
+/// may come at any place.
+pub fn expand(
+    alloc: Global,
+    modules: &Vec<AModule>,
+    table: &Table,
+    places: &Places,
+) -> Result<Lines, ExpandFault>
+    requires count { length modules.now.items < 2 ^ 32 }
+    requires small { All (λ m. length m.symbols < 2 ^ 32) modules.now.items }
+    requires table { IsTable (linked modules.now.items) table.now.defs.entries }
+    requires chosen { ChoosesAll (linked modules.now.items) table.now.defs.entries }
+    requires places { places.now.inits.items ≡ spots 0 (inits_of (linked modules.now.items)) }
+    ensures lines { IfOk result (λ lines. lines ≡ expanded modules.now.items) }
+    ensures fits { IfOk result (λ _. text_weight (routines_of modules.now.items) ≤ text_limit) }
+    ensures refused { IfErr result (IsTooLarge (text_weight (routines_of modules.now.items))) }
+
+    // The cause is the answer where it holds, and lines else, unless memory ran out.
+    ensures refused_exactly { (fault : ExpandFault) → fault ≢ Memory → IsTooLarge (text_weight (routines_of modules.now.items)) fault → (result ≡ Err fault) ⊎ (result ≡ Err Memory) }
+    ensures expanded_exactly { text_weight (routines_of modules.now.items) ≤ text_limit → IsOk result ⊎ (result ≡ Err Memory) }
+{
+    let list = expand_all(alloc, modules, table, places)?;
+    Ok(Lines { list })
 }

@@ -8,4 +8,5 @@ mod marking;
 mod reach;
 mod settings;
 
-pub use expanding::{ExpandFault, expand};
+pub use expanding::expand;
+pub use p9_text::ExpandFault;

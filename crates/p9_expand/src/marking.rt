@@ -2,7 +2,7 @@
 ghost use Rattle.std.specs.Prelude.{◌≡◌, ℕ, ◌==◌, ◌||◌, ◌<◌, false, IfOk, OnOk, length, map, slice_index_or};
 ghost use Rattle.std.specs.List.{list_any};
 ghost use Rattle.p9_abs.specs.Names.{is_number};
-ghost use Rattle.p9_expand.specs.Expanded.{aimed, is_head, is_named, marked_from};
+ghost use Rattle.p9_expand.specs.Expanded.{aimed, is_head, is_named, marked_from, marked};
 
 use p9_base::NoMemory;
 use p9_r3k::Line;
@@ -93,7 +93,7 @@ fn with_marks(alloc: Global, lines: &[Line], marks: &[bool]) -> Result<Vec<Line>
 
 /// Lines of which those are marked that are a function's first or that a target names.
 pub(crate) fn marked(alloc: Global, lines: &[Line], heads: &[u32]) -> Result<Vec<Line>, NoMemory>
-    ensures { IfOk result (λ new. new.items ≡ marked_from (λ i. is_head heads.now i || is_named lines.now i) 0 lines.now) }
+    ensures { IfOk result (λ new. new.items ≡ marked heads.now lines.now) }
 {
     let mut marks = vec![in alloc; false; lines.len()]?;
     mark_heads(&mut marks, heads);
