@@ -2,4 +2,8 @@ pub mod Sums
 pub mod Standing
 pub mod Marks
 pub mod Piecing
+pub mod Text
+pub mod Whole
+pub mod Within
+pub mod Marked
 pub mod Basing

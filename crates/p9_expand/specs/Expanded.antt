@@ -52,6 +52,10 @@ marked heads lines = marked_from (λ i. is_head heads i || is_named lines i) 0 l
 abbrev pub lines_by : List AModule → (Def → Option ℕ) → List Routine → (unit offset : ℕ) → List Line
 lines_by ms entry rs unit offset = marked (heads_from ms entry 2 0 rs) (aimed_lines ms entry rs unit offset)
 
+-- the first line of each function
+abbrev pub heads_of : List AModule → List ℕ
+heads_of modules = heads_from (linked modules) (entry_number (routines_of modules) 0) 2 0 (routines_of modules)
+
 abbrev pub expanded : List AModule → List Line
 expanded modules =
     lines_by (linked modules) (entry_number (routines_of modules) 0) (routines_of modules) (length modules) (base_offset modules)

@@ -9,7 +9,7 @@ use Rattle.p9_abs.specs.Forms.{decoded}
 use Rattle.p9_abs.specs.Runs.{Routine}
 use Rattle.p9_r3k.specs.declared.lines.Line.{Line}
 use Rattle.p9_lines.specs.FormLines.{lines_of, entry_lines}
-use Rattle.p9_text.specs.Entries.{places_of}
+use Rattle.p9_text.specs.Places.{places_of}
 use Rattle.p9_expand.specs.Settings.{setting_of, way_of}
 
 -- what is no instruction has no lines

@@ -10,7 +10,9 @@ ghost use Rattle.p9_text.specs.Weights.{text_weight, text_limit, IsTooLarge};
 ghost use Rattle.p9_lines.specs.FormLines.{start_lines};
 ghost use Rattle.p9_text.specs.Entries.{held};
 ghost use Rattle.p9_expand.specs.Pieces.{text_pieces, joined, firsts_from, heads_from};
-ghost use Rattle.p9_expand.specs.Expanded.{lines_by, expanded};
+ghost use Rattle.p9_expand.specs.Expanded.{lines_by, heads_of, expanded};
+ghost use Rattle.p9_expand.specs.Targets.{AreMarked};
+ghost use Rattle.p9_lines.specs.Weights.{words_needed};
 ghost use Rattle.p9_expand.specs.Spots.{offset_among, offset_from};
 
 use crate::goals::Scene;
@@ -137,6 +139,12 @@ pub fn expand(
     requires chosen { ChoosesAll (linked modules.now.items) table.now.defs.entries }
     requires places { places.now.inits.items ≡ spots 0 (inits_of (linked modules.now.items)) }
     ensures lines { IfOk result (λ lines. lines ≡ expanded modules.now.items) }
+
+    // A line is a target exactly where it is a function's first or some line's target names it.
+    ensures targets { IfOk result (AreMarked (heads_of modules.now.items)) }
+
+    // With the no-ops that they need, the lines are within the weight of the text.
+    ensures within { IfOk result (λ lines. words_needed lines ≤ text_weight (routines_of modules.now.items)) }
     ensures fits { IfOk result (λ _. text_weight (routines_of modules.now.items) ≤ text_limit) }
     ensures refused { IfErr result (IsTooLarge (text_weight (routines_of modules.now.items))) }
 

@@ -97,7 +97,7 @@ fn reaches(function: &Function, k: u32, form: Form) -> bool
 {
     match form {
         Form::BranchPair(_, _, _, label) | Form::BranchSign(_, _, label) => {
-            is_short(&function.routine.def.code.list, &function.sums, k, label)
+            is_short(function.routine.code(), &function.sums, k, label)
         }
         _ => false,
     }

@@ -76,7 +76,7 @@ fn lay_code(laid: &mut Laid, scene: &Scene, function: &Function) -> Result<(), N
     ensures heads { OnOk result (laid.new.heads.items ≡ laid.old.heads.items) }
 {
     let mut k: u32 = 0;
-    let mut rest = function.routine.def.code.list.as_slice();
+    let mut rest = function.routine.code();
     while let [a, after @ ..] = rest {
         begin(laid)?;
         lay_form(laid, scene, function, k, a)?;
@@ -102,7 +102,7 @@ fn lay_routine(
     let function = Function {
         routine,
         setting: setting(routine)?,
-        sums: sums(alloc, &routine.def.code.list)?,
+        sums: sums(alloc, routine.code())?,
         first: number.checked_add(1).ok_or(NoMemory)?,
     };
     let head = next_line(laid)?;
@@ -128,9 +128,7 @@ pub(crate) fn lay_text(
     let mut rest = routines;
     while let [routine, after @ ..] = rest {
         lay_routine(alloc, laid, scene, routine, number)?;
-        let size = u32::try_from(routine.def.code.list.len()).map_err(|_| NoMemory)?;
-        number = number.checked_add(1).ok_or(NoMemory)?;
-        number = number.checked_add(size).ok_or(NoMemory)?;
+        number = number.checked_add(routine.size()?).ok_or(NoMemory)?;
         rest = after;
     }
     Ok(())

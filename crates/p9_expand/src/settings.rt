@@ -28,7 +28,8 @@ fn has_call(code: &[Abs]) -> bool
 fn keeps(def: &TextDef) -> bool
     ensures { result ≡ keeps def.now }
 {
-    def.frame != 0 || has_call(&def.code.list)
+    let code = &def.code;
+    def.frame != 0 || has_call(&code.list)
 }
 
 // A frame that takes 2^32 bytes with its kept word is want of memory.

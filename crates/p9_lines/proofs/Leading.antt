@@ -223,7 +223,6 @@ entry-by w g false = tt
 pub entry_leads : EntryLeads
 entry_leads w g = entry-by w g g.keeps
 
-
 -- branches
 
 jump-by : (w : Way) (goal : Option ℕ) → w.goal ≡ goal → Lead w (jump_lines (i.J 0) goal)

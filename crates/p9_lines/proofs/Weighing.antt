@@ -234,7 +234,6 @@ entry_within g = entry-by g g.keeps
 pub start_within : StartWithin
 start_within unit symbol o = lit≤ tt
 
-
 -- branches
 
 jump-by : (goal : Option ℕ) → words_needed (jump_lines (i.J 0) goal) ≤ 2

@@ -195,11 +195,7 @@ pub(crate) fn add_static(
 }
 
 /// A jump or branch to a goal, or a stop where there is none.
-pub(crate) fn add_jump(
-    lines: &mut Vec<Line>,
-    inst: Inst,
-    goal: Option<u32>,
-) -> Result<(), NoMemory>
+pub(crate) fn add_jump(lines: &mut Vec<Line>, inst: Inst, goal: Option<u32>) -> Result<(), NoMemory>
     ensures { OnOk result (lines.new.items ≡ lines.old.items ++ jump_lines inst goal) }
 {
     match goal {

@@ -17,6 +17,9 @@ use p9_abs::{Calculation, Form, Location, Width};
 use p9_base::NoMemory;
 use p9_r3k::{Inst, Line};
 
+/// Where a return address is kept, from R29 on.
+const KEPT: u32 = 0;
+
 // An offset from R29 as it stands in a function, modulo 2^32.
 fn from_stack(setting: &Setting, more: u32, offset: u32) -> u32
     ensures { result ≡ (setting.now.taken + more + offset) % 2 ^ 32 }
@@ -127,7 +130,7 @@ fn add_return(lines: &mut Vec<Line>, setting: &Setting) -> Result<(), NoMemory>
     let kept = plain(Inst::Lw {
         rs: STACK,
         rt: 31,
-        imm: 0,
+        imm: KEPT,
     });
     add(lines, &[kept])?;
     add_raise(lines, setting.taken)?;
@@ -185,10 +188,13 @@ pub fn add_lines(
         }
         Form::Jump(_) => add_jump(lines, Inst::J { index: 0 }, way.goal),
         Form::Call(_) => add_jump(lines, Inst::Jal { index: 0 }, way.goal),
-        Form::CallRegister(a) => add(lines, &[plain(Inst::Jalr {
-            rs: u32::from(a),
-            rd: 31,
-        })]),
+        Form::CallRegister(a) => add(
+            lines,
+            &[plain(Inst::Jalr {
+                rs: u32::from(a),
+                rd: 31,
+            })],
+        ),
         Form::Return => add_return(lines, setting),
         Form::SystemCall => add(lines, &[plain(Inst::Syscall { code: 0 })]),
     }
@@ -205,18 +211,13 @@ pub fn add_entry(lines: &mut Vec<Line>, setting: &Setting) -> Result<(), NoMemor
     let keeping = plain(Inst::Sw {
         rs: STACK,
         rt: 31,
-        imm: 0,
+        imm: KEPT,
     });
     add(lines, &[keeping])
 }
 
 /// Adds the first lines of a program, which set R30 to the address of a symbol and an offset.
-pub fn add_start(
-    lines: &mut Vec<Line>,
-    unit: u32,
-    symbol: u32,
-    offset: u32,
-) -> Result<(), NoMemory>
+pub fn add_start(lines: &mut Vec<Line>, unit: u32, symbol: u32, offset: u32) -> Result<(), NoMemory>
     ensures { OnOk result (lines.new.items ≡ lines.old.items ++ start_lines unit symbol offset) }
 {
     add_base(lines, unit, symbol, offset)

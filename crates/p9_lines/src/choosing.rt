@@ -75,19 +75,71 @@ pub(crate) fn calculation(by: Calculation, a: u32, b: u32, c: u32) -> Inst
     ensures { result ≡ calculation by a b c }
 {
     match by {
-        Calculation::Add => Inst::Add { rs: b, rt: a, rd: c },
-        Calculation::AddU => Inst::Addu { rs: b, rt: a, rd: c },
-        Calculation::Sub => Inst::Sub { rs: b, rt: a, rd: c },
-        Calculation::SubU => Inst::Subu { rs: b, rt: a, rd: c },
-        Calculation::And => Inst::And { rs: b, rt: a, rd: c },
-        Calculation::Or => Inst::Or { rs: b, rt: a, rd: c },
-        Calculation::Xor => Inst::Xor { rs: b, rt: a, rd: c },
-        Calculation::Nor => Inst::Nor { rs: b, rt: a, rd: c },
-        Calculation::Sgt => Inst::Slt { rs: b, rt: a, rd: c },
-        Calculation::SgtU => Inst::Sltu { rs: b, rt: a, rd: c },
-        Calculation::Sll => Inst::Sllv { rs: a, rt: b, rd: c },
-        Calculation::Srl => Inst::Srlv { rs: a, rt: b, rd: c },
-        Calculation::Sra => Inst::Srav { rs: a, rt: b, rd: c },
+        Calculation::Add => Inst::Add {
+            rs: b,
+            rt: a,
+            rd: c,
+        },
+        Calculation::AddU => Inst::Addu {
+            rs: b,
+            rt: a,
+            rd: c,
+        },
+        Calculation::Sub => Inst::Sub {
+            rs: b,
+            rt: a,
+            rd: c,
+        },
+        Calculation::SubU => Inst::Subu {
+            rs: b,
+            rt: a,
+            rd: c,
+        },
+        Calculation::And => Inst::And {
+            rs: b,
+            rt: a,
+            rd: c,
+        },
+        Calculation::Or => Inst::Or {
+            rs: b,
+            rt: a,
+            rd: c,
+        },
+        Calculation::Xor => Inst::Xor {
+            rs: b,
+            rt: a,
+            rd: c,
+        },
+        Calculation::Nor => Inst::Nor {
+            rs: b,
+            rt: a,
+            rd: c,
+        },
+        Calculation::Sgt => Inst::Slt {
+            rs: b,
+            rt: a,
+            rd: c,
+        },
+        Calculation::SgtU => Inst::Sltu {
+            rs: b,
+            rt: a,
+            rd: c,
+        },
+        Calculation::Sll => Inst::Sllv {
+            rs: a,
+            rt: b,
+            rd: c,
+        },
+        Calculation::Srl => Inst::Srlv {
+            rs: a,
+            rt: b,
+            rd: c,
+        },
+        Calculation::Sra => Inst::Srav {
+            rs: a,
+            rt: b,
+            rd: c,
+        },
     }
 }
 

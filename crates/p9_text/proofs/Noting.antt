@@ -6,7 +6,8 @@ use Rattle.p9_abs.specs.Runs.{Routine}
 use Rattle.p9_abs.specs.Programs.{is_routine}
 use Rattle.std.proofs.lemmas.Bool.Decides.{nat_tests}
 use Rattle.p9_text.specs.declared.entries.Key.{Key}
-use Rattle.p9_text.specs.Entries.{places_of, entry_number, same_key, key_of, noted}
+use Rattle.p9_text.specs.Places.{places_of}
+use Rattle.p9_text.specs.Entries.{entry_number, same_key, key_of, noted}
 
 abbrev key_of_routine : Routine → Key
 key_of_routine r = record { unit = r.unit; symbol = r.symbol }

@@ -1,16 +1,13 @@
 -- The numbers of entries and instructions in the order of the text: each function has a number for its entry, and behind
 -- it one for each of its instructions.
-use Rattle.std.specs.Prelude.{ℕ, ◌+◌, ◌==◌, ◌&&◌, Bool, Option, Some, None, if◌then◌else◌, List, [], ◌∷◌, length}
+use Rattle.std.specs.Prelude.{ℕ, ◌+◌, ◌==◌, ◌&&◌, Bool, Option, Some, None, if◌then◌else◌, List, [], ◌∷◌}
 use Rattle.indexmap.specs.IndexMap.{get}
 use Rattle.p9_abs.specs.declared.modules.Def.{Def}
 use Rattle.p9_abs.specs.Runs.{Routine}
 use Rattle.p9_abs.specs.Programs.{is_routine}
+use Rattle.p9_text.specs.Places.{places_of}
 use Rattle.p9_text.specs.declared.entries.Key.{Key}
 use Rattle.p9_text.specs.declared.entries.Entries.{Entries}
-
--- the numbers that a function takes
-abbrev pub places_of : Routine → ℕ
-places_of r = 1 + length r.def.code
 
 -- the number of the entry of the function that a definition is, where functions have numbers from n on
 abbrev pub entry_number : List Routine → ℕ → Def → Option ℕ

@@ -6,7 +6,7 @@ ghost use Rattle.p9_abs.specs.declared.modules.Def.{Def};
 ghost use Rattle.p9_text.specs.declared.entries.Key.{Key};
 ghost use Rattle.p9_text.specs.Entries.{entry_number, held, same_key, noted};
 
-use crate::routines::Routine;
+use crate::order::Routine;
 use indexmap::IndexMap;
 use p9_abs::Def;
 use p9_base::NoMemory;
@@ -50,9 +50,7 @@ impl Entries {
                 symbol: routine.symbol,
             };
             note(&mut map, key, number)?;
-            let size = u32::try_from(routine.def.code.list.len()).map_err(|_| NoMemory)?;
-            number = number.checked_add(1).ok_or(NoMemory)?;
-            number = number.checked_add(size).ok_or(NoMemory)?;
+            number = number.checked_add(routine.size()?).ok_or(NoMemory)?;
             rest = after;
         }
         Ok(Entries { map })

@@ -3,11 +3,11 @@
 #![tactic(auto)]
 
 mod entries;
+mod order;
 mod program;
-mod routines;
 mod weighing;
 
 pub use entries::{Entries, Key};
+pub use order::{Routine, routines};
 pub use program::Program;
-pub use routines::{Routine, routines};
 pub use weighing::{ExpandFault, instruction_words, text_words};

@@ -5,7 +5,7 @@ ghost use Rattle.p9_text.specs.declared.weighing.ExpandFault.{ExpandFault};
 ghost use Rattle.p9_text.specs.declared.weighing.ExpandFault.TheVariants.{Memory};
 ghost use Rattle.p9_text.specs.Weights.{routine_weight, text_weight, text_limit, IsTooLarge};
 
-use crate::routines::Routine;
+use crate::order::Routine;
 use p9_abs::{Abs, decoded, words_of};
 use p9_base::NoMemory;
 use thiserror::Error;
@@ -60,7 +60,7 @@ fn code_words(code: &[Abs]) -> Option<u64>
 fn routine_words(routine: &Routine) -> Option<u64>
     ensures { IfSome result (λ n. n ≡ routine_weight routine.now) }
 {
-    code_words(&routine.def.code.list)?.checked_add(4)
+    code_words(routine.code())?.checked_add(4)
 }
 
 // The words of the start and of functions; none where these are 2^64 or more.

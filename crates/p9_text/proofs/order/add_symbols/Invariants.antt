@@ -1,6 +1,6 @@
 use Rattle.std.proofs.Common.{◌≡◌, ◌+◌, ◌++◌, length}
 use Rattle.p9_abs.specs.Programs.{numbered_from, routines_in}
-use Rattle.p9_text.proofs.routines.add_symbols.Given as goal
+use Rattle.p9_text.proofs.order.add_symbols.Given as goal
 
 abbrev pub invariant-loop-rest : goal.invariant-loop-rest
 invariant-loop-rest l = record {

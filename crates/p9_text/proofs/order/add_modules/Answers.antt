@@ -1,7 +1,7 @@
 use Rattle.std.proofs.Common.{◌≡◌, ◌-◌, ◌<◌, ◌^◌, ◌∷◌, length, take, drop, refl, ap, arith}
 use Rattle.std.proofs.lemmas.List.Elements.{All-rest}
 use Rattle.p9_text.proofs.Listing.{front, modules_turn}
-use Rattle.p9_text.proofs.routines.add_modules.Goals as goal
+use Rattle.p9_text.proofs.order.add_modules.Goals as goal
 
 pub loop-rest-preserved : goal.loop-rest-preserved
 loop-rest-preserved c =

@@ -1,6 +1,6 @@
 use Rattle.std.proofs.Common.{◌≡◌, ◌-◌, ◌∷◌, length, take, drop, refl, ap, arith}
 use Rattle.p9_text.proofs.Listing.{front, symbols_turn}
-use Rattle.p9_text.proofs.routines.add_symbols.Goals as goal
+use Rattle.p9_text.proofs.order.add_symbols.Goals as goal
 
 pub loop-rest-preserved : goal.loop-rest-preserved
 loop-rest-preserved c =

@@ -1,9 +1,10 @@
 // Functions in the order of the text.
 ghost use Rattle.std.specs.Prelude.{◌≡◌, ◌<◌, ◌+◌, ◌^◌, ◌++◌, OnOk, IfOk, All, length};
 ghost use Rattle.p9_abs.specs.BuiltIn.{builtin_module};
+ghost use Rattle.p9_text.specs.Places.{places_of};
 ghost use Rattle.p9_abs.specs.Programs.{numbered_from, routine_of, routines_in, routines_of, records};
 
-use p9_abs::{AModule, Body, Def, Symbol, TextDef};
+use p9_abs::{AModule, Abs, Body, Def, Symbol, TextDef};
 use p9_base::NoMemory;
 use std::alloc::Global;
 use std::marker::Model;
@@ -22,6 +23,25 @@ impl<'a> Model for Routine<'a> {
     ghost Value = { Routine };
 
     ghost view = { λ r. record { unit = r.unit; symbol = r.symbol; def = r.def.now } };
+}
+
+impl<'a> Routine<'a> {
+    /// Its instructions.
+    pub fn code(&self) -> &'a [Abs]
+        ensures { result.now ≡ self.now.def.code }
+    {
+        let def = self.def;
+        &def.code.list
+    }
+
+    /// How many numbers it takes: one for its entry and one for each instruction. 2^32 and more are
+    /// want of memory.
+    pub fn size(&self) -> Result<u32, NoMemory>
+        ensures { IfOk result (λ n. n ≡ places_of self.now) }
+    {
+        let count = u32::try_from(self.code().len()).map_err(|_| NoMemory)?;
+        count.checked_add(1).ok_or(NoMemory)
+    }
 }
 
 // Adds the function that a symbol defines, if it defines one.
