@@ -7,3 +7,7 @@ pub mod Whole
 pub mod Within
 pub mod Marked
 pub mod Basing
+pub mod Labels
+pub mod Aims
+pub mod Reaching
+pub mod Valid
