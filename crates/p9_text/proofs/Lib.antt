@@ -1,3 +1,2 @@
 pub mod Listing
 pub mod Exactly
-pub mod Noting

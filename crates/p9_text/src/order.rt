@@ -90,10 +90,7 @@ fn add_symbols<'a>(
 }
 
 // Adds the functions of modules.
-fn add_modules<'a>(
-    routines: &mut Vec<Routine<'a>>,
-    modules: &'a [AModule],
-) -> Result<(), NoMemory>
+fn add_modules<'a>(routines: &mut Vec<Routine<'a>>, modules: &'a [AModule]) -> Result<(), NoMemory>
     requires count { length modules.now < 2 ^ 32 }
     requires small { All (λ m. length m.symbols < 2 ^ 32) modules.now }
     ensures { OnOk result (routines.new.items ≡ routines.old.items ++ routines_in (records modules.now)) }
