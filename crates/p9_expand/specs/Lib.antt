@@ -1,6 +1,0 @@
-pub mod Settings
-pub mod Pieces
-pub mod Spots
-pub mod Expanded
-pub mod Targets
-pub mod Laid
