@@ -1,0 +1,4 @@
+pub mod Insts
+pub mod FormLines
+pub mod Weights
+pub mod Laws
