@@ -8,7 +8,6 @@ mod operands;
 mod settling;
 mod sizes;
 mod starts;
-#[cfg(test)]
-mod tests;
 
 pub use settling::settle;
+pub use sizes::has_room;

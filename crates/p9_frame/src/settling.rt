@@ -8,7 +8,7 @@ ghost use Rattle.p9_frame.specs.Sizes.{stated_sum};
 ghost use Rattle.p9_frame.specs.Plans.{IsPlain};
 
 use crate::code::code_of;
-use crate::sizes::{first_offset, offsets};
+use crate::sizes::{first_offset, offsets_of};
 use crate::starts::starts;
 use p9_abs::{AFunction, Code, Homes, Regions, TextDef};
 use p9_base::NoMemory;
@@ -37,7 +37,7 @@ pub fn settle(
         return Err(NoMemory);
     }
     let table = table_of(alloc, regions, homes, code.len())?;
-    let offsets = offsets(alloc, first_offset(code), sizes)?;
+    let offsets = offsets_of(alloc, first_offset(code), sizes)?;
     let starts = starts(alloc, code, &table)?;
     let frame = offsets.end;
     let list = code_of(

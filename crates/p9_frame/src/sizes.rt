@@ -1,10 +1,10 @@
 // The frame: offsets of automatics, and its size.
 
-ghost use Rattle.std.specs.Prelude.{◌≡◌, ◌+◌, ◌^◌, ◌<◌, ◌≤◌, max, sum_by, IfOk};
+ghost use Rattle.std.specs.Prelude.{◌≡◌, ◌↔◌, ◌^◌, ◌<◌, ◌≤◌, IsTrue, IfOk};
 ghost use Rattle.p9_abs.specs.Forms.{decoded};
-ghost use Rattle.p9_frame.specs.Sizes.{rounded, stack_offset, offset_in, offset_of, greatest_named, first_offset, offsets_from, end_from};
+ghost use Rattle.p9_frame.specs.Sizes.{rounded, stack_offset, offset_in, offset_of, greatest_named, first_offset, offsets_from, end_from, stated_sum};
 
-use p9_abs::{Abs, Form, Location, decoded};
+use p9_abs::{AFunction, Abs, Form, Location, decoded};
 use p9_base::NoMemory;
 use std::alloc::Global;
 
@@ -68,7 +68,7 @@ pub(crate) struct Offsets {
 }
 
 /// Places automatics of these sizes one after the other.
-pub(crate) fn offsets(alloc: Global, first: u64, sizes: &[u32]) -> Result<Offsets, NoMemory>
+pub(crate) fn offsets_of(alloc: Global, first: u64, sizes: &[u32]) -> Result<Offsets, NoMemory>
     requires { end_from first sizes.now < 2 ^ 32 }
     ensures list { IfOk result (λ offsets. offsets.list.items ≡ offsets_from first sizes.now) }
     ensures end { IfOk result (λ offsets. offsets.end ≡ end_from first sizes.now) }
@@ -83,4 +83,29 @@ pub(crate) fn offsets(alloc: Global, first: u64, sizes: &[u32]) -> Result<Offset
         list,
         end: at as u32,
     })
+}
+
+/// The greatest frame.
+const LIMIT: u64 = 16777212;
+
+fn sum_fits(first: u64, sizes: &[u32]) -> bool
+    requires { first < 2 ^ 33 }
+    ensures { IsTrue result ↔ (end_from first sizes.now ≤ 16777212) }
+{
+    let mut total = first;
+    for size in sizes {
+        total += rounded(*size);
+        if total > LIMIT {
+            return false;
+        }
+    }
+    total <= LIMIT
+}
+
+/// Whether 8 bytes, the greatest offset that the function names from R29, and its automatics, each
+/// rounded up to 4, come to a frame within the limit.
+pub fn has_room(f: &AFunction) -> bool
+    ensures { IsTrue result ↔ (stated_sum f.now ≤ 16777212) }
+{
+    sum_fits(8 + rounded(greatest_named(&f.code.list)), &f.autos.list)
 }

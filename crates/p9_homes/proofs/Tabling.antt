@@ -173,6 +173,13 @@ none-at zero k = refl
 none-at (suc n) zero = refl
 none-at (suc n) (suc k) = none-at n k
 
+end : (n : ℕ) → replicate n empty ++ empty ∷ [] ≡ replicate (suc n) empty
+end zero = refl
+end (suc n) = ap (λ z. empty ∷ z) (end n)
+
+pub replicate-more : (n : ℕ) (cells after : List (Option ℕ)) → cells ≡ replicate n empty → after ≡ cells ++ empty ∷ [] → after ≡ replicate (n + 1) empty
+replicate-more n cells after e d = d ∙ (ap (λ z. z ++ empty ∷ []) e ∙ (end n ∙ ap (λ k. replicate k empty) (let q : suc n ≡ n + 1 = omega arith in q)))
+
 cell-none : (n i g : ℕ) → cell (replicate n empty) i g ≡ empty
 cell-none n i g = none-at n (i * 12 + g)
 

@@ -1,6 +1,6 @@
 // The table of what homes hold.
 
-ghost use Rattle.std.specs.Prelude.{◌≡◌, ◌*◌, ◌+◌, ◌<◌, ◌≤◌, ◌^◌, ℕ, All, IfOk, length, Some, None};
+ghost use Rattle.std.specs.Prelude.{◌≡◌, ◌*◌, ◌+◌, ◌<◌, ◌≤◌, ◌^◌, ℕ, All, IfOk, length, replicate, Some, None};
 ghost use Rattle.p9_abs.specs.Regions.{AreHomes};
 ghost use Rattle.p9_homes.specs.Tables.{AreWithin, AreMarked, IsTable};
 
@@ -65,6 +65,17 @@ fn mark_all(count: usize, regions: &[Region], homes: &[Option<u8>], cells: &mut 
     }
 }
 
+fn empty(alloc: Global, count: usize) -> Result<Vec<Option<u32>>, NoMemory>
+    ensures { IfOk result (λ cells. cells.items ≡ replicate count None) }
+{
+    let mut cells = Vec::new(alloc);
+    for i in 0..count {
+        let _ = i;
+        cells.push(None)?;
+    }
+    Ok(cells)
+}
+
 /// What each home holds at each of so many instructions.
 pub fn table_of(
     alloc: Global,
@@ -77,7 +88,7 @@ pub fn table_of(
     requires homes { AreHomes regions.now homes.now }
     ensures { IfOk result (λ table. IsTable regions.now homes.now (length regions.now) count table) }
 {
-    let mut list = vec![in alloc; None; count * HOMES as usize]?;
+    let mut list = empty(alloc, count * HOMES as usize)?;
     mark_all(count, &regions.list, &homes.list, &mut list);
     Ok(Table { list })
 }

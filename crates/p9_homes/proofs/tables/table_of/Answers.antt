@@ -11,7 +11,7 @@ mark_all-requires c =
     record {
       within = subst (AreWithin c.args.count) (sym regions) c.requires.within;
       homes = homes-along _ _ _ _ (sym regions) (sym homes) c.requires.homes;
-      none = table-start c.deref.result.now c.deref-2.result.now c.args.count c.deref_mut.result.now (c.deref_mut.ensures.value ∙ c.in_ok-list.ensures.items_if_clones_equal (λ y e. e));
+      none = table-start c.deref.result.now c.deref-2.result.now c.args.count c.deref_mut.result.now (c.deref_mut.ensures.value ∙ c.in_ok-list.ensures);
     }
 
 pub returns : goal.returns

@@ -1,6 +1,6 @@
 use Rattle.std.proofs.Common.{◌≡◌, ◌++◌, drop}
 use Rattle.p9_frame.specs.Sizes.{offsets_from, end_from}
-use Rattle.p9_frame.proofs.sizes.offsets.Given as goal
+use Rattle.p9_frame.proofs.sizes.offsets_of.Given as goal
 
 abbrev pub invariant-loop-size : goal.invariant-loop-size
 invariant-loop-size l = record {
