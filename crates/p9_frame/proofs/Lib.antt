@@ -1,4 +1,4 @@
-pub mod Wrapping
+pub mod Within
 pub mod Offsets
 pub mod Moving
 pub mod Making

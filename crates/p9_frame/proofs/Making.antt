@@ -1,5 +1,7 @@
 -- Starts of blocks, and the blocks that are made.
-use Rattle.std.proofs.Common.{ℕ, zero, suc, ◌+◌, ◌≡◌, ◌≤◌, ◌<◌, Bool, true, false, Option, Some, None, refl, sym, ap, ◌∙◌, subst, arith, List, [], ◌∷◌, ◌++◌, length, slice_get, slice_index, get_or, map, drop, All, append_assoc}
+use Rattle.std.proofs.Common.{ℕ, zero, suc, ◌+◌, ◌≡◌, ◌≤◌, ◌<◌, Bool, true, false, Option, Some, None, refl, sym, ap, ◌∙◌, subst, arith, List, [], ◌∷◌, ◌++◌, length, slice_get, slice_index, get_or, map, drop, All, ◌⊎◌, inl, inr, append_assoc, length-append}
+use Rattle.std.proofs.lemmas.List.{append-nil}
+use Rattle.std.proofs.Math.ListN.{drop_of_length-le}
 use Rattle.std.proofs.lemmas.Option.{slice_get_within, get_or_from_slice_get}
 use Rattle.p9_abs.specs.declared.instructions.Operand.{Operand}
 use Rattle.p9_abs.specs.declared.instructions.Operand.TheVariants.{Reg, Const, AddrSB, AddrFP, AddrSP, MemSB, MemFP, MemSP, MemReg, Label, Func, Hi, Lo, Auto, AutoAddr}
@@ -24,7 +26,35 @@ start-next code table offsets i at before after next e b a n =
     let q : next ≡ start_of (plan_of code table offsets) (suc i) = omega (arith, e, b, a, n, d) in
     q ∙ ap (start_of (plan_of code table offsets)) (let r : suc i ≡ i + 1 = omega arith in r)
 
+module _ (list after : List ℕ) (i at : ℕ) (S : ℕ → ℕ) (size : length list ≡ i) (e : after ≡ list ++ at ∷ []) (here : at ≡ S i) (before : (k : ℕ) → k < i → slice_index list k ≡ S k) where
+  at-push : (xs : List ℕ) (x : ℕ) (k : ℕ) → k < length xs → slice_index (xs ++ x ∷ []) k ≡ slice_index xs k
+  at-push [] x k l = absurd (omega (arith, l))
+  at-push (y ∷ xs) x zero l = refl
+  at-push (y ∷ xs) x (suc k) l = at-push xs x k (omega (arith, l))
+
+  at-last : (xs : List ℕ) (x : ℕ) → slice_index (xs ++ x ∷ []) (length xs) ≡ x
+  at-last [] x = refl
+  at-last (y ∷ xs) x = at-last xs x
+
+  pub starts-pushed : (k : ℕ) → k < i + 1 → slice_index after k ≡ S k
+  starts-pushed k l = ap (λ z. slice_index z k) e ∙ by (cases k i l)
+    where
+      cases : (k i : ℕ) → k < i + 1 → (k < i) ⊎ (k ≡ i)
+      cases k i l = grind (arith)
+
+      by : (k < i) ⊎ (k ≡ i) → slice_index (list ++ at ∷ []) k ≡ S k
+      by (inl m) = at-push list at k (omega (arith, m, size)) ∙ before k m
+      by (inr q) = ap (slice_index (list ++ at ∷ [])) (let z : k ≡ length list = omega (arith, q, size) in z) ∙ (at-last list at ∙ (here ∙ ap S (sym q)))
+
+  pub starts-size : length after ≡ i + 1
+  starts-size = ap length e ∙ (length-append list (at ∷ []) ∙ (let z : length list + 1 ≡ i + 1 = omega (arith, size) in z))
+
 -- Blocks
+
+pub block-end : (code : List Abs) (sizes : List ℕ) (table : List (Option ℕ)) (offsets starts : List ℕ) (taken i : ℕ) (out whole : List Abs) → length code ≤ i →
+    out ++ blocks_in code sizes table offsets starts taken i (drop i code) ≡ whole → out ≡ whole
+block-end code sizes table offsets starts taken i out whole l h =
+    sym (append-nil out) ∙ (ap (λ z. out ++ blocks_in code sizes table offsets starts taken i z) (sym (drop_of_length-le code l)) ∙ h)
 
 pub block-step : (code : List Abs) (sizes : List ℕ) (table : List (Option ℕ)) (offsets starts : List ℕ) (taken i : ℕ) (a : Abs) (out after whole : List Abs) → i < length code → a ≡ get_or code i a →
     after ≡ out ++ block_in code sizes table offsets starts taken i a → out ++ blocks_in code sizes table offsets starts taken i (drop i code) ≡ whole →

@@ -28,21 +28,22 @@ number-here [] size i l e = absurd (omega (arith, l))
 number-here (s ∷ sizes) size zero l e = e
 number-here (s ∷ sizes) size (suc i) l e = number-here sizes size i (omega (arith, l)) e
 
-module _ (list after sizes whole : List ℕ) (size i at : ℕ) (l : i < length sizes) (e : size ≡ slice_index sizes i) where
+module _ (sizes : List ℕ) (size i at one : ℕ) (l : i < length sizes) (e : size ≡ slice_index sizes i) (r : one ≡ rounded size) where
   at-drop : drop i sizes ≡ size ∷ drop (i + 1) sizes
   at-drop = drop-item sizes size i l (number-here sizes size i l e)
 
-  pub offsets-step : after ≡ list ++ at ∷ [] → list ++ offsets_from at (drop i sizes) ≡ whole → after ++ offsets_from (at + rounded size) (drop (i + 1) sizes) ≡ whole
-  offsets-step a h =
-      ap (λ z. z ++ offsets_from (at + rounded size) (drop (i + 1) sizes)) a
+  pub offsets-step : (list after whole : List ℕ) → after ≡ list ++ at ∷ [] → list ++ offsets_from at (drop i sizes) ≡ whole → after ++ offsets_from (at + one) (drop (i + 1) sizes) ≡ whole
+  offsets-step list after whole a h =
+      ap (λ z. after ++ offsets_from (at + z) (drop (i + 1) sizes)) r
+      ∙ (ap (λ z. z ++ offsets_from (at + rounded size) (drop (i + 1) sizes)) a
       ∙ (append_assoc list (at ∷ []) (offsets_from (at + rounded size) (drop (i + 1) sizes))
-      ∙ (ap (λ z. list ++ offsets_from at z) (sym at-drop) ∙ h))
+      ∙ (ap (λ z. list ++ offsets_from at z) (sym at-drop) ∙ h)))
 
-  pub end-step : (n : ℕ) → end_from at (drop i sizes) ≡ n → end_from (at + rounded size) (drop (i + 1) sizes) ≡ n
-  end-step n h = let d : end_from at (drop i sizes) ≡ at + (rounded size + sum_by rounded (drop (i + 1) sizes)) = ap (end_from at) at-drop in omega (arith, d, h)
+  pub end-step : (n : ℕ) → end_from at (drop i sizes) ≡ n → end_from (at + one) (drop (i + 1) sizes) ≡ n
+  end-step n h = let d : end_from at (drop i sizes) ≡ at + (rounded size + sum_by rounded (drop (i + 1) sizes)) = ap (end_from at) at-drop in omega (arith, d, h, r)
 
-  pub end-room : (n : ℕ) → end_from at (drop i sizes) ≡ n → at + rounded size ≤ n
-  end-room n h = let d : end_from at (drop i sizes) ≡ at + (rounded size + sum_by rounded (drop (i + 1) sizes)) = ap (end_from at) at-drop in omega (arith, d, h)
+  pub end-room : (n : ℕ) → end_from at (drop i sizes) ≡ n → at + one ≤ n
+  end-room n h = let d : end_from at (drop i sizes) ≡ at + (rounded size + sum_by rounded (drop (i + 1) sizes)) = ap (end_from at) at-drop in omega (arith, d, h, r)
 
 -- Offsets
 

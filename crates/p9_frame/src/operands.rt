@@ -1,6 +1,6 @@
 // Operands of framed code.
 
-ghost use Rattle.std.specs.Prelude.{◌≡◌, ◌%◌, ◌^◌, map, slice_index, IfOk};
+ghost use Rattle.std.specs.Prelude.{◌≡◌, ◌+◌, map, IfOk};
 ghost use Rattle.p9_abs.specs.Framed.{home_or_memory, from_entry};
 ghost use Rattle.p9_homes.specs.Tables.{home_in};
 ghost use Rattle.p9_frame.specs.Emitted.{operand_in, framed_in};
@@ -11,21 +11,23 @@ use p9_base::NoMemory;
 use p9_homes::{Table, home_of};
 use std::alloc::Global;
 
-#[tactic(auto, using(crate::proofs::Wrapping::memory_wraps))]
+/// How many words there are.
+const WORDS: u64 = 1 << 32;
+
 fn home_or_memory(home: Option<u8>, first: u32, offset: u32) -> Operand
     ensures { result ≡ home_or_memory home (first + offset) }
 {
     match home {
-        None => Operand::MemReg(29, first.wrapping_add(offset)),
+        None => Operand::MemReg(29, ((u64::from(first) + u64::from(offset)) % WORDS) as u32),
         Some(home) => Operand::Reg(home),
     }
 }
 
-#[tactic(auto, using(crate::proofs::Wrapping::entry_wraps))]
 fn from_entry(taken: u32, first: u32, offset: u32) -> Operand
     ensures { result ≡ from_entry taken (first + offset) }
 {
-    Operand::AddrSP(first.wrapping_add(offset).wrapping_sub(taken))
+    let sum = u64::from(first) + u64::from(offset) + WORDS - u64::from(taken);
+    Operand::AddrSP((sum % WORDS) as u32)
 }
 
 fn operand_in(

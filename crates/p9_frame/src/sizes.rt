@@ -1,6 +1,6 @@
 // The frame: offsets of automatics, and its size.
 
-ghost use Rattle.std.specs.Prelude.{◌≡◌, ◌↔◌, ◌^◌, ◌<◌, ◌≤◌, IsTrue, IfOk};
+ghost use Rattle.std.specs.Prelude.{◌≡◌, ◌↔◌, ◌^◌, ◌<◌, ◌≤◌, max, IsTrue, IfOk};
 ghost use Rattle.p9_abs.specs.Forms.{decoded};
 ghost use Rattle.p9_frame.specs.Sizes.{rounded, stack_offset, offset_in, offset_of, greatest_named, first_offset, offsets_from, end_from, stated_sum};
 
@@ -36,12 +36,18 @@ fn offset_of(form: Option<Form>) -> u32
     }
 }
 
+fn larger(a: u32, b: u32) -> u32
+    ensures { result ≡ max a b }
+{
+    a.max(b)
+}
+
 fn greatest_named(code: &[Abs]) -> u32
     ensures { result ≡ greatest_named code.now }
 {
     let mut greatest = 0;
     for a in code {
-        greatest = offset_of(decoded(a)).max(greatest);
+        greatest = larger(offset_of(decoded(a)), greatest);
     }
     greatest
 }

@@ -1,6 +1,6 @@
 // Where the blocks of instructions start.
 
-ghost use Rattle.std.specs.Prelude.{◌≡◌, ◌+◌, ◌<◌, ◌^◌, ℕ, List, IfOk, length, slice_index};
+ghost use Rattle.std.specs.Prelude.{◌≡◌, ◌+◌, ◌<◌, ◌^◌, ℕ, Bool, List, IfOk, length, slice_index};
 ghost use Rattle.p9_abs.specs.Framed.{start_of};
 ghost use Rattle.p9_frame.specs.Plans.{held, at_call, plan_of};
 
@@ -34,7 +34,9 @@ pub(crate) fn starts(alloc: Global, code: &[Abs], table: &Table) -> Result<Vec<u
             return Err(NoMemory);
         }
         list.push(at as u32)?;
-        at += count_at_call(code, table, i, i) + 1 + count_at_call(code, table, i, i + 1);
+        let before = count_at_call(code, table, i, i);
+        let after = count_at_call(code, table, i, i + 1);
+        at += before + 1 + after;
     }
     Ok(list)
 }
