@@ -16,6 +16,9 @@ use Rattle.p9_frame.specs.Plans.{held, at_call, plan_of}
 use Rattle.p9_frame.specs.Emitted.{moves_of, operand_in, framed_in, block_in, blocks_in}
 use Rattle.p9_frame.proofs.Offsets.{drop-item}
 
+pub framed-made : (F : Operand → Operand) (a b : Abs) (list : List Operand) → b ≡ a → list ≡ map F b.operands → instruction b.op list ≡ instruction a.op (map F a.operands)
+framed-made F a b list e d = ap (instruction b.op) d ∙ ap (λ (z : Abs). instruction z.op (map F z.operands)) e
+
 -- Starts
 
 pub start-next : (code : List Abs) (table : List (Option ℕ)) (offsets : List ℕ) (i at before after next : ℕ) → at ≡ start_of (plan_of code table offsets) i →

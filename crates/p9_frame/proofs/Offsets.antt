@@ -1,6 +1,7 @@
 -- Where automatics stand in a frame.
 use Rattle.std.proofs.Common.{ℕ, zero, suc, ◌+◌, ◌-◌, ◌*◌, ◌/◌, ◌%◌, ◌==◌, ◌&&◌, ◌≡◌, ◌≢◌, ◌⊎◌, inl, inr, ◌≤◌, ◌<◌, max, Bool, true, false, Option, Some, None, option_and_then, refl, sym, ap, ◌∙◌, subst, arith, List, [], ◌∷◌, ◌++◌, length, slice_get, slice_index, slice_index_or, get_or, drop, sum_by, append_assoc, if◌then◌else◌}
 use Rattle.std.proofs.Math.Seq.{drop-cons}
+use Rattle.std.proofs.lemmas.List.Sums.{sum_by-cons}
 use Rattle.std.proofs.lemmas.Bool.{false≢true, and_parts, eqb-true}
 use Rattle.p9_abs.specs.declared.instructions.Abs.{Abs}
 use Rattle.p9_abs.specs.declared.forms.Location.{Location}
@@ -28,6 +29,9 @@ number-here [] size i l e = absurd (omega (arith, l))
 number-here (s ∷ sizes) size zero l e = e
 number-here (s ∷ sizes) size (suc i) l e = number-here sizes size i (omega (arith, l)) e
 
+end-cons : (at size : ℕ) (sizes : List ℕ) → end_from at (size ∷ sizes) ≡ at + (rounded size + sum_by rounded sizes)
+end-cons at size sizes = ap (λ z. at + z) (sum_by-cons rounded size sizes)
+
 module _ (sizes : List ℕ) (size i at one : ℕ) (l : i < length sizes) (e : size ≡ slice_index sizes i) (r : one ≡ rounded size) where
   at-drop : drop i sizes ≡ size ∷ drop (i + 1) sizes
   at-drop = drop-item sizes size i l (number-here sizes size i l e)
@@ -40,10 +44,10 @@ module _ (sizes : List ℕ) (size i at one : ℕ) (l : i < length sizes) (e : si
       ∙ (ap (λ z. list ++ offsets_from at z) (sym at-drop) ∙ h)))
 
   pub end-step : (n : ℕ) → end_from at (drop i sizes) ≡ n → end_from (at + one) (drop (i + 1) sizes) ≡ n
-  end-step n h = let d : end_from at (drop i sizes) ≡ at + (rounded size + sum_by rounded (drop (i + 1) sizes)) = ap (end_from at) at-drop in omega (arith, d, h, r)
+  end-step n h = let d : end_from at (drop i sizes) ≡ at + (rounded size + sum_by rounded (drop (i + 1) sizes)) = ap (end_from at) at-drop ∙ end-cons at size (drop (i + 1) sizes) in omega (arith, d, h, r)
 
   pub end-room : (n : ℕ) → end_from at (drop i sizes) ≡ n → at + one ≤ n
-  end-room n h = let d : end_from at (drop i sizes) ≡ at + (rounded size + sum_by rounded (drop (i + 1) sizes)) = ap (end_from at) at-drop in omega (arith, d, h, r)
+  end-room n h = let d : end_from at (drop i sizes) ≡ at + (rounded size + sum_by rounded (drop (i + 1) sizes)) = ap (end_from at) at-drop ∙ end-cons at size (drop (i + 1) sizes) in omega (arith, d, h, r)
 
 -- Offsets
 
@@ -56,10 +60,10 @@ pub offset-facts : (first : ℕ) (sizes : List ℕ) (v p : ℕ) → first % 4 �
 offset-facts first [] v p f e = absurd (let x : None ≡ Some p = e in cc)
 offset-facts first (size ∷ sizes) zero p f e =
     let q : first ≡ p = (let x : Some first ≡ Some p = e in cc) in
-    (subst (λ z. z % 4 ≡ 0) q f, omega (arith, q), (let s : end_from first (size ∷ sizes) ≡ first + (rounded size + sum_by rounded sizes) = refl in omega (arith, q, s)))
+    (subst (λ z. z % 4 ≡ 0) q f, omega (arith, q), (let s : end_from first (size ∷ sizes) ≡ first + (rounded size + sum_by rounded sizes) = end-cons first size sizes in omega (arith, q, s)))
 offset-facts first (size ∷ sizes) (suc v) p f e =
     let w = offset-facts (first + rounded size) sizes v p (let r : (first + (size + 3) / 4 * 4) % 4 ≡ 0 = omega (arith, f) in r) e in
-    (w.0, omega (arith, w.1), (let s : end_from first (size ∷ sizes) ≡ first + (rounded size + sum_by rounded sizes) = refl in let t = w.2 in omega (arith, t, s)))
+    (w.0, omega (arith, w.1), (let s : end_from first (size ∷ sizes) ≡ first + (rounded size + sum_by rounded sizes) = end-cons first size sizes in let t = w.2 in omega (arith, t, s)))
 
 pub offset-order : (first : ℕ) (sizes : List ℕ) (v w p q : ℕ) → first % 4 ≡ 0 → v < w → slice_get (offsets_from first sizes) v ≡ Some p → slice_get (offsets_from first sizes) w ≡ Some q →
     p + rounded (slice_index sizes v) ≤ q
@@ -75,7 +79,7 @@ offset-order first (size ∷ sizes) (suc v) (suc w) p q f l e d =
 
 pub sum-fourfold : (sizes : List ℕ) → sum_by rounded sizes % 4 ≡ 0
 sum-fourfold [] = refl
-sum-fourfold (size ∷ sizes) = let h : sum_by rounded sizes % 4 ≡ 0 = sum-fourfold sizes in let s : sum_by rounded (size ∷ sizes) ≡ (size + 3) / 4 * 4 + sum_by rounded sizes = refl in omega (arith, h, s)
+sum-fourfold (size ∷ sizes) = let h : sum_by rounded sizes % 4 ≡ 0 = sum-fourfold sizes in let s : sum_by rounded (size ∷ sizes) ≡ (size + 3) / 4 * 4 + sum_by rounded sizes = sum_by-cons rounded size sizes in omega (arith, h, s)
 
 pub first-fourfold : (named : ℕ) → first_offset named % 4 ≡ 0
 first-fourfold named = let q : ((max 4 named + 3) / 4 * 4 + 4) % 4 ≡ 0 = omega arith in q

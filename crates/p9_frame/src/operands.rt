@@ -48,6 +48,24 @@ fn operand_in(
     }
 }
 
+fn operands_in(
+    alloc: Global,
+    table: &Table,
+    offsets: &[u32],
+    starts: &[u32],
+    taken: u32,
+    i: u32,
+    operands: &[Operand],
+) -> Result<Vec<Operand>, NoMemory>
+    ensures { IfOk result (λ list. list.items ≡ map (operand_in table.now offsets.now starts.now taken i) operands.now) }
+{
+    let list = operands
+        .iter()
+        .map(|operand| operand_in(table, offsets, starts, taken, i, *operand))
+        .collect(alloc)?;
+    Ok(list)
+}
+
 /// An instruction with homes and offsets in place of automatics, and labels to blocks.
 pub(crate) fn framed_in(
     alloc: Global,
@@ -60,12 +78,7 @@ pub(crate) fn framed_in(
 ) -> Result<Abs, NoMemory>
     ensures { IfOk result (λ b. b ≡ framed_in table.now offsets.now starts.now taken i a.now) }
 {
-    let list = a
-        .operands
-        .list
-        .iter()
-        .map(|operand| operand_in(table, offsets, starts, taken, i, *operand))
-        .collect(alloc)?;
+    let list = operands_in(alloc, table, offsets, starts, taken, i, &a.operands.list)?;
     Ok(Abs {
         op: a.op,
         operands: Operands { list },

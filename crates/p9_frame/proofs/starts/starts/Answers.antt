@@ -1,4 +1,4 @@
-use Rattle.std.proofs.Common.{arith, refl, true, false, []}
+use Rattle.std.proofs.Common.{arith, ap, length, true, false, []}
 use Rattle.p9_abs.specs.Framed.{start_of}
 use Rattle.p9_frame.specs.Plans.{plan_of}
 use Rattle.p9_frame.proofs.Making.{start-next, starts-pushed, starts-size}
@@ -6,7 +6,7 @@ use Rattle.p9_frame.proofs.starts.starts.Goals as goal
 
 pub loop-i-init : goal.loop-i-init
 loop-i-init c = record {
-  size = refl;
+  size = ap length c.new-list.ensures.items;
   before = λ offsets k l. absurd (omega (arith, l));
   next = λ offsets. c.held_count-at.ensures.value true;
   bound = (let h = c.held_count-at.ensures.bound in omega (arith, h));
