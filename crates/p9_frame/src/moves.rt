@@ -73,13 +73,7 @@ fn kept_for(code: &[Abs], i: u32, holder: Option<u32>) -> Option<u32>
 {
     match holder {
         None => None,
-        Some(v) => {
-            if writes_at(code, v, i) {
-                None
-            } else {
-                Some(v)
-            }
-        }
+        Some(v) => { if writes_at(code, v, i) { None } else { Some(v) } }
     }
 }
 
@@ -123,21 +117,24 @@ fn shift_operands(
 ) -> Result<Operands, NoMemory>
     ensures { IfOk result (λ operands. operands ≡ shift_operands loads memory home) }
 {
-    let pair = if loads { [memory, home] } else { [home, memory] };
+    let pair = if loads {
+        [memory, home]
+    } else {
+        [home, memory]
+    };
     let list = pair.to_vec(alloc)?;
     Ok(Operands { list })
 }
 
-fn move_of(
-    alloc: Global,
-    size: u32,
-    offset: u32,
-    home: u8,
-    loads: bool,
-) -> Result<Abs, NoMemory>
+fn move_of(alloc: Global, size: u32, offset: u32, home: u8, loads: bool) -> Result<Abs, NoMemory>
     ensures { IfOk result (λ a. a ≡ move_of size offset home loads) }
 {
-    let operands = shift_operands(alloc, loads, Operand::MemReg(29, offset), Operand::Reg(home))?;
+    let operands = shift_operands(
+        alloc,
+        loads,
+        Operand::MemReg(29, offset),
+        Operand::Reg(home),
+    )?;
     Ok(Abs {
         op: op_of_size(size),
         operands,

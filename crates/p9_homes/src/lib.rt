@@ -4,5 +4,5 @@
 mod holders;
 mod tables;
 
-pub use holders::{home_of, holder};
+pub use holders::{holder, home_of};
 pub use tables::{Table, table_of};

@@ -1,5 +1,4 @@
 use Rattle.std.proofs.Common.{arith, true, ap, sym, ◌∙◌, ◌+◌, ◌++◌, length, subst}
-use Rattle.p9_homes.specs.Tables.{IsTable}
 use Rattle.p9_frame.specs.Sizes.{offsets_from, end_from}
 use Rattle.p9_frame.specs.Plans.{held}
 use Rattle.p9_frame.specs.Emitted.{moves_of, blocks_in}
@@ -16,7 +15,7 @@ returns c =
     record {
       table = table;
       starts = c.in_ok-starts.starts.items;
-      table_is = subst (λ n. IsTable c.args.regions.now c.args.homes.now (length c.args.regions.now) n table) c.len-2.ensures c.in_ok-table.ensures;
+      table_is = c.in_ok-table.ensures;
       starts_are = c.in_ok-starts.ensures;
       frame_is = c.in_ok-offsets.ensures.end ∙ ap (λ z. end_from z sizes) c.first_offset.ensures;
       code_is =
