@@ -1,0 +1,6 @@
+pub mod Within
+pub mod Offsets
+pub mod Moving
+pub mod Making
+pub mod Placing
+pub mod Framing

@@ -1,0 +1,4 @@
+pub mod Sizes
+pub mod Plans
+pub mod Emitted
+pub mod Making

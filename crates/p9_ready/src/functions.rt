@@ -1,0 +1,55 @@
+// Whether a function may be given its frame.
+ghost use Rattle.std.specs.Prelude.{◌↔◌, ◌≡◌, ◌⊎◌, ◌≤◌, IsTrue, All};
+ghost use Rattle.p9_abs.specs.declared.instructions.Op.TheVariants.{Jmp, Ret};
+ghost use Rattle.p9_abs.specs.Validity.{EndsWell};
+ghost use Rattle.p9_abs.specs.Automatics.{IsInstructionOf, IsCode};
+ghost use Rattle.p9_frame.specs.Plans.{IsPlain};
+ghost use Rattle.p9_frame.specs.Sizes.{stated_sum};
+
+use crate::operands::{is_instruction, is_plain};
+use p9_abs::{AFunction, Abs, Op};
+use p9_frame::has_room;
+
+fn is_end(op: Op) -> bool
+    ensures { IsTrue result ↔ ((op ≡ Ret) ⊎ (op ≡ Jmp)) }
+{
+    match op {
+        Op::Ret | Op::Jmp => true,
+        _ => false,
+    }
+}
+
+fn ends_well(code: &[Abs]) -> bool
+    ensures { IsTrue result ↔ EndsWell code.now }
+{
+    match code.last() {
+        None => false,
+        Some(last) => is_end(last.op),
+    }
+}
+
+fn are_instructions(autos: usize, count: usize, code: &[Abs]) -> bool
+    ensures { IsTrue result ↔ All (IsInstructionOf autos count) code.now }
+{
+    code.iter().all(|a| is_instruction(autos, count, a))
+}
+
+fn are_plain(code: &[Abs]) -> bool
+    ensures { IsTrue result ↔ IsPlain code.now }
+{
+    code.iter().all(|a| is_plain(a))
+}
+
+fn is_code(f: &AFunction) -> bool
+    ensures { IsTrue result ↔ IsCode f.now }
+{
+    let code = f.code.list.as_slice();
+    f.depth.list.len() == code.len() && ends_well(code) && are_instructions(f.autos.list.len(), code.len(), code)
+}
+
+/// Whether the function may be given its frame.
+pub fn may_settle(f: &AFunction) -> bool
+    ensures { IsTrue result ↔ (IsCode f.now × IsPlain f.now.code × (stated_sum f.now ≤ 16777212)) }
+{
+    is_code(f) && are_plain(&f.code.list) && has_room(f)
+}

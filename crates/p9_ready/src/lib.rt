@@ -1,0 +1,7 @@
+//! Whether a function over automatics may be given its frame.
+#![tactic(auto)]
+
+mod functions;
+mod operands;
+
+pub use functions::may_settle;
