@@ -10,7 +10,7 @@ use Rattle.p9_abs.specs.declared.instructions.TextDef.{TextDef}
 use Rattle.p9_abs.specs.declared.regions.Region.{Region}
 use Rattle.p9_abs.specs.Automatics.{is_variable}
 use Rattle.p9_abs.specs.Steps.{Mach, Around, Step, Next, Turns, Calls, Returns, Exits, Undefined, step, without_text}
-use Rattle.p9_abs.specs.Runs.{keeps, taken_by, in_word}
+use Rattle.p9_abs.specs.Runs.{keeps, taken_by, taken_from_stack, in_word}
 use Rattle.p9_abs.specs.OneCall.{Layout, around_call, size_at}
 use Rattle.p9_abs.specs.Framed.{Plan, IsFramed}
 
@@ -98,8 +98,9 @@ Follows apart a b (suc n) x y = FollowsBy apart b (steps_of a x) (Follows apart 
 
 -- Starts
 
--- a state that an entry gives: R29 and the frame lie in the stack, apart from what others keep
-pub record IsEntry (frame : ℕ) (others : ℕ → Bool) (x : Mach) : Type 0 where
+-- a state that an entry gives: R29 and the frame lie in the stack, and what the entry took from R29 is
+-- apart from what others keep. Where it took nothing, R29 is the caller's, whose return address is kept there.
+pub record IsEntry (frame taken : ℕ) (others : ℕ → Bool) (x : Mach) : Type 0 where
   pub first : x.at ≡ 0
   pub words : HoldsWords x.state.core
   pub input : AreBytes x.state.left
@@ -107,7 +108,7 @@ pub record IsEntry (frame : ℕ) (others : ℕ → Bool) (x : Mach) : Type 0 whe
   pub fourfold : reg x.state.core 29 % 4 ≡ 0
   pub low : stack_start ≤ reg x.state.core 29
   pub high : reg x.state.core 29 + frame + 4 ≤ stack_end
-  pub apart : (b : ℕ) → b < frame + 4 → others (reg x.state.core 29 + b) ≡ false
+  pub apart : (b : ℕ) → b < taken → others (reg x.state.core 29 + b) ≡ false
 
 -- each variable holds so many low bytes as it has
 pub record HasVariables (f : AFunction) (x : Mach) : Type 0 where
@@ -133,7 +134,7 @@ side_of symbol f l sp others = record { around = around_call symbol f l sp other
 -- in one layout, from one state with any content of the variables
 abbrev pub KeepsOver : AFunction → AFunction → Layout → Type 0
 KeepsOver f g l =
-    (symbol : ℕ → ℕ) (others : ℕ → Bool) (n : ℕ) (x : Mach) → IsEntry l.frame others x → HasVariables f x →
+    (symbol : ℕ → ℕ) (others : ℕ → Bool) (n : ℕ) (x : Mach) → IsEntry l.frame (taken_from_stack l.frame f.code) others x → HasVariables f x →
     (let sp : ℕ = reg x.state.core 29 in
     Follows nowhere (side_of symbol f l sp others) (side_of symbol g l sp others) n x x)
 
@@ -177,7 +178,7 @@ HoldsVariables f offsets x y =
 -- both start in one state
 abbrev pub KeepsFramed : AFunction → List ℕ → TextDef → Type 0
 KeepsFramed f offsets def =
-    (symbol : ℕ → ℕ) (others : ℕ → Bool) (n : ℕ) (x y : Mach) → IsEntry def.frame others x → HasVariables f x →
+    (symbol : ℕ → ℕ) (others : ℕ → Bool) (n : ℕ) (x y : Mach) → IsEntry def.frame (taken_by def) others x → HasVariables f x →
     x.state ≡ y.state → y.at ≡ 0 → HoldsVariables f offsets x y →
     (let sp : ℕ = reg x.state.core 29 in
     Follows (λ b. nat_le sp b && in_variable f 0 offsets (b - sp))
