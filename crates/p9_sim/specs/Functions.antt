@@ -1,5 +1,5 @@
 -- When the code of a function is right: assembled code, and code over automatics under every layout.
-use Rattle.std.specs.Prelude.{◌≡◌, ◌≤◌, ℕ, ◌+◌, ◌-◌, ◌&&◌, ◌||◌, nat_le, nat_lt, not, Bool, if◌then◌else◌, List, length}
+use Rattle.std.specs.Prelude.{◌≡◌, ◌≤◌, ℕ, ◌+◌, ◌-◌, ◌&&◌, ◌||◌, nat_le, nat_lt, not, Bool, Some, if◌then◌else◌, List, []}
 use Rattle.p9_base.specs.Core.{Core, stack_start, reg, with_word}
 use Rattle.p9_base.specs.SystemCalls.{State}
 use Rattle.p9_abs.specs.declared.instructions.AFunction.{AFunction}
@@ -32,8 +32,6 @@ after_entry def x =
 -- the bytes of return addresses that active calls keep: those of others, and the own one
 abbrev pub kept_with : (others : ℕ → Bool) → TextDef → (sp : ℕ) → ℕ → Bool
 kept_with others def sp byte = others byte || (keeps def && in_word byte (Some sp))
-  where
-    use Rattle.std.specs.Prelude.{Some}
 
 abbrev pub setting_of : Ground → Counting → (symbol : ℕ → ℕ) → TextDef → (others : ℕ → Bool) → (active need : ℕ) → Entry → Setting
 setting_of g counting symbol def others active need entry =

@@ -48,7 +48,7 @@ pub record Match (g : Ground) (shut : ℕ → Bool) (active : ℕ) (m : Map) (s 
   pub words : HoldsWords x.core
   pub bytes : AreBytes x.left
   pub laid : IsLaidOut x
-  pub data : x.core.data_start ≡ g.data_start
+  pub data_start : x.core.data_start ≡ g.data_start
 
 -- CALLS
 

@@ -5,7 +5,7 @@ use Rattle.p9_base.specs.SystemCalls.{State, exit_text}
 use Rattle.p9_abs.specs.declared.instructions.TextDef.{TextDef}
 use Rattle.p9_abs.specs.Steps.{Mach, Around, Step, Next, Turns, Calls, Returns, Exits, Undefined, step}
 use Rattle.p9_abs.specs.Runs.{linked_to, raised}
-use Rattle.p9_abs.specs.Keeping.{is_back}
+use Rattle.p9_abs.specs.Keeping.{is_back, nowhere}
 use Rattle.p9_cmean.specs.Cells as c
 use Rattle.p9_cmean.specs.Cells.{Value}
 use Rattle.p9_cmean.specs.Plays.{Call, Play, Done, Wrong, NoMeaning, Exit, Cut, Turn, Ask, Moved}
@@ -122,9 +122,6 @@ abbrev pub Performs : Setting → Play Value → Map → Count → Mach → Type
 Performs set (Done v s) m d x =
     (r : Reaches set x d) × (z : Mach) × (step_in set r.to ≡ Returns z) × IsPaid r.count × (n : Map)
     × ((to : ℕ) → IsWord to → Answers set.ground nowhere set.outer_shut set.outer_active set.entry n s (after_return set to z) v)
-  where
-    nowhere : ℕ → Bool
-    nowhere byte = false
 Performs set (Exit text s) m d x =
     (r : Reaches set x d) × (z : Mach) × (step_in set r.to ≡ Exits z) × (r.count.backs ≤ r.count.allowed) × (exit_text z.state.core ≡ text) × IsEven s z.state
 Performs set (Turn s p) m d x =

@@ -1,5 +1,5 @@
 -- When the bytes of an object translate a module of C.
-use Rattle.std.specs.Prelude.{◌≡◌, ◌≢◌, ◌<◌, ℕ, Bool, true, false, Option, Some, None, if◌then◌else◌, List, [], ◌∷◌, length, map, flat_map, slice_get, Contains}
+use Rattle.std.specs.Prelude.{◌≡◌, ◌≢◌, ◌⊎◌, ◌<◌, ℕ, Bool, true, false, Option, Some, None, if◌then◌else◌, List, [], ◌∷◌, length, map, flat_map, slice_get, Contains}
 use Rattle.p9_abs.specs.declared.instructions.TextDef.{TextDef}
 use Rattle.p9_abs.specs.declared.modules.DataPiece.{DataPiece}
 use Rattle.p9_abs.specs.declared.modules.DataPiece.TheVariants.{Raw, Address}
@@ -51,8 +51,6 @@ pub record SameSymbol (tags : Tags) (a : Symbol) (b : abs.Symbol) : Type 0 where
 -- no instruction and no piece of data names a symbol that is only declared
 abbrev pub Names : (k : ℕ) → body.Body → Type 0
 Names k what = Contains (map named_by_operand (operands_of what)) (Some k) ⊎ Contains (map named_by_piece (pieces_of what)) (Some k)
-  where
-    use Rattle.std.specs.Prelude.{◌⊎◌}
 
 -- DATA
 
@@ -88,7 +86,7 @@ pub record IsTranslation (source : Source) (out : AModule) : Type 0 where
   pub count : length out.symbols ≡ length (symbols.symbols source)
   pub same : (k : ℕ) (a : Symbol) (b : abs.Symbol) → slice_get (symbols.symbols source) k ≡ Some a → slice_get out.symbols k ≡ Some b → SameSymbol source.tags a b
   pub defined : (j k : ℕ) (a b : abs.Symbol) → slice_get out.symbols j ≡ Some a → slice_get out.symbols k ≡ Some b → Names k a.body → b.body ≢ Declared
-  pub data : (modules : List Source) (owner k : ℕ) (a : Symbol) (b : abs.Symbol) (pieces : List DataPiece)
+  pub contents : (modules : List Source) (owner k : ℕ) (a : Symbol) (b : abs.Symbol) (pieces : List DataPiece)
       → Join modules → slice_get modules owner ≡ Some source → slice_get (symbols.symbols source) k ≡ Some a → slice_get out.symbols k ≡ Some b → b.body ≡ Data pieces
       → pieces_cells (union_of modules) owner out pieces ≡ first_cells (union_of modules) (record { owner = owner; tags = source.tags; symbol = a })
   pub functions : (modules : List Source) (owner k : ℕ) (b : abs.Symbol) (def : TextDef) (g : Ground) (symbol : ℕ → ℕ)
