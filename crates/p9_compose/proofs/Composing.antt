@@ -214,15 +214,16 @@ module _ (p : Addresses) (rs : List Routine) (g : Ground) (functions : Functions
         (ok call s n copied (before + need) h.4 f own_kept (a ∷ callers) rt r.to z le is word (runs-on x r.to (Calls (g.function call.function) z) h.2)
           (subst (λ q. AtCall g q q (before + need) h.4 call s (linked_to to z.state)) (sym same) (h.6 to word)))
 
-    absent-end : (d active n copied : ℕ) (q : Play Value) → IsMeaningless q → Comes (resolve (calls_to d functions) active n copied q)
-    absent-end d active n copied (Done v s) h = absurd h
-    absent-end d active n copied (Wrong why place s) h = absurd h
-    absent-end d active n copied (NoMeaning place s) h = tt
-    absent-end d active n copied (Exit text s) h = absurd h
-    absent-end d active n copied (Cut s) h = absurd h
-    absent-end d active n copied (Turn s q) h = absurd h
-    absent-end d active n copied (Ask call s rest) h = absurd h
-    absent-end d active n copied (Moved b q) h = absurd h
+  absent-end : (st : Status) (k c0 : ℕ) (a : Active) (callers : List Active) (before : ℕ) (entry : Entry) (d active n copied : ℕ) (q : Play Value) → IsMeaningless q
+      → ComesTo p rs g most k c0 st a callers before entry (resolve (calls_to d functions) active n copied q)
+  absent-end st k c0 a callers before entry d active n copied (Done v s) h = absurd h
+  absent-end st k c0 a callers before entry d active n copied (Wrong why place s) h = absurd h
+  absent-end st k c0 a callers before entry d active n copied (NoMeaning place s) h = tt
+  absent-end st k c0 a callers before entry d active n copied (Exit text s) h = absurd h
+  absent-end st k c0 a callers before entry d active n copied (Cut s) h = absurd h
+  absent-end st k c0 a callers before entry d active n copied (Turn s q) h = absurd h
+  absent-end st k c0 a callers before entry d active n copied (Ask call s rest) h = absurd h
+  absent-end st k c0 a callers before entry d active n copied (Moved b q) h = absurd h
 
   module _ (program : IsProgram p rs g functions most) where
     out-at-once : (call : Call) (s : c.State) (copied active : ℕ) (m : Map) (f : ℕ) (kept : Option ℕ) (callers : List Active) (rt : Routine) (y z : Mach)

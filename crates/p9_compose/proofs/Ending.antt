@@ -39,11 +39,11 @@ last-calls around code x a e last h = by last
     by (inr r) = jump-calls around (without_text x) (map operand_kind a.operands) (subst (λ o. IsCall (acts_as around (kinds_form o (map operand_kind a.operands)) (without_text x))) r is)
 
 not-last : (code : List Abs) (k : ℕ) → EndsWell code → k < length code → ((a : Abs) → slice_get code k ≡ Some a → (a.op ≡ Ret) ⊎ (a.op ≡ Jmp) → ⊥) → k + 1 < length code
-not-last [] k h i no = absurd h
-not-last (a ∷ []) zero h i no = absurd (no a refl h)
-not-last (a ∷ []) (suc k) h i no = absurd (omega (arith, i))
-not-last (a ∷ b ∷ code) zero h i no = omega arith
-not-last (a ∷ b ∷ code) (suc k) h i no = let r = not-last (b ∷ code) k h (omega (arith, i)) no in omega (arith, r)
+not-last [] k h i bad = absurd h
+not-last (a ∷ []) zero h i bad = absurd (bad a refl h)
+not-last (a ∷ []) (suc k) h i bad = absurd (omega (arith, i))
+not-last (a ∷ b ∷ code) zero h i bad = omega arith
+not-last (a ∷ b ∷ code) (suc k) h i bad = let r = not-last (b ∷ code) k h (omega (arith, i)) bad in omega (arith, r)
 
 pub call-inside : (around : Around) (code : List Abs) (y z : Mach) (to : ℕ) → EndsWell code → step around code y ≡ Calls to z → z.at < length code
 call-inside around code y z to well e =

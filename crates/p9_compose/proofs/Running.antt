@@ -26,7 +26,7 @@ pub back-or-not : (taken : Bool) (from to : ℕ) → (taken ≡ false → to ≡
 back-or-not false from to h = inr (refl, (let e = h refl in omega (arith, e)))
 back-or-not true from to h = go (nat_le to from) refl
   where
-    go : (b : Bool) → nat_le to from ≡ b → ((if b then 1 else 0) ≡ 1) ⊎ (((if b then 1 else 0) ≡ 0) × (from + 1 ≤ to))
+    go : (b : Bool) → nat_le to from ≡ b → (◌≡◌ {A = ℕ} (if b then 1 else 0) 1) ⊎ ((◌≡◌ {A = ℕ} (if b then 1 else 0) 0) × (from + 1 ≤ to))
     go true e = inl refl
     go false e = inr (refl, grind (arith, nat_tests))
 

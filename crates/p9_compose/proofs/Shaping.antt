@@ -74,8 +74,17 @@ shape-walk around form n x i = record {
   system = λ e f. (let s : State = called (asked x.state.core) x.state in ended-shape n x s.core.ending s i);
 }
 
+over-text : (n : ℕ) (x : Mach) (s : Step) → Shape n (without_text x) s → Shape n x s
+over-text n x (Next z) h = h
+over-text n x (Turns taken z) h = h
+over-text n x (Calls to z) h = record { inside = h.inside; at = h.at; bare = h.bare; out = h.out; left = h.left }
+over-text n x (Returns z) h = h
+over-text n x (Exits z) h = h
+over-text n x Undefined h = tt
+
 pub shaped : (around : Around) (code : List Abs) (x : Mach) (s : Step) → step around code x ≡ s → Shape (length code) x s
 shaped around code x s e =
-    subst (Shape (length code) x) e
-    (step-by around code x (Shape (length code) x) tt
-    (λ form f. walked around form (without_text x) (Shape (length code) x) (shape-walk around form (length code) (without_text x) (formed code x.at form f))))
+    over-text (length code) x s
+    (subst (Shape (length code) (without_text x)) e
+    (step-by around code x (Shape (length code) (without_text x)) tt
+    (λ form f. walked around form (without_text x) (Shape (length code) (without_text x)) (shape-walk around form (length code) (without_text x) (formed code x.at form f)))))
