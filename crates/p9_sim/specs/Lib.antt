@@ -3,3 +3,4 @@ pub mod Matching
 pub mod Playing
 pub mod Functions
 pub mod Translating
+pub mod Examples

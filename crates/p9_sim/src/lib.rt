@@ -5,4 +5,4 @@
 
 mod laws;
 
-pub use laws::{counting};
+pub use laws::{branches_are_steps, right_code, wrong_codes};
