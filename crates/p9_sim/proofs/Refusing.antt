@@ -65,6 +65,7 @@ seven-given set s m d w words none p =
     omega (arith, zero_is)
 
 pub register_over_call : RegisterOverCall
+unfolding at_two written
 register_over_call set call s m d x p =
     let here : Setting = with_code set register_code in
     let r = p.0 in

@@ -1,5 +1,6 @@
 -- When the code of a function is right: assembled code, and code over automatics under every layout.
-use Rattle.std.specs.Prelude.{◌≡◌, ◌≤◌, ℕ, ◌+◌, ◌-◌, ◌&&◌, ◌||◌, nat_le, nat_lt, not, Bool, Some, if◌then◌else◌, List, []}
+use Rattle.std.specs.Prelude.{◌≡◌, ◌≤◌, ℕ, ◌+◌, ◌-◌, ◌&&◌, ◌||◌, nat_le, nat_lt, not, Bool, Some, if◌then◌else◌, List, [], All}
+use Rattle.p9_base.specs.Words.{IsWord}
 use Rattle.p9_base.specs.Core.{Core, stack_start, reg, with_word}
 use Rattle.p9_base.specs.SystemCalls.{State}
 use Rattle.p9_abs.specs.declared.instructions.AFunction.{AFunction}
@@ -89,12 +90,12 @@ setting_over g counting symbol f l others active need entry =
       entry = entry;
     }
 
--- The same under every layout with room for its frame, whatever its variables hold at first. At each
+-- The same under every layout with room for its frame, whatever words its variables hold at first. At each
 -- of its calls no live object owns a byte of the own frame that is no automatic's.
 abbrev pub FnOkOver : Counting → Ground → (symbol : ℕ → ℕ) → AFunction → (need : ℕ) → Body → FunctionName → Type 0
 FnOkOver counting g symbol f need body name =
     (l : Layout) (vars : List ℕ) (others : ℕ → Bool) (active turns : ℕ) (call : Call) (s : c.State) (m : Map) (x : State)
-    → IsLayout f l → l.frame + 4 ≤ need → HasVariables f (record { state = x; vars = vars; at = 0 })
+    → IsLayout f l → l.frame + 4 ≤ need → HasVariables f (record { state = x; vars = vars; at = 0 }) → All IsWord vars
     → call.function ≡ name → active + need ≤ room → AtCall g others others active m call s x
     → Performs (setting_over g counting symbol f l others active need (entry_of m s call x)) (body turns call s) m first_count
       (record { state = after_entry (framed_as f l) x; vars = vars; at = 0 })

@@ -68,12 +68,13 @@ abbrev pub IsArgument : Core → (count : ℕ) → (byte : ℕ) → Type 0
 IsArgument x count byte = (reg x 29 + 4 ≤ byte) × (byte < reg x 29 + 4 + 4 * count)
 
 -- A matched pair behind a JAL: arguments stand in their places, which lie in the stack, are no live
--- object's, and are not banned.
+-- object's, and are not banned. The stack below R29 is free: no banned byte lies there.
 pub record AtCall (g : Ground) (banned shut : ℕ → Bool) (active : ℕ) (m : Map) (call : Call) (s : c.State) (x : State) : Type 0 where
   pub matched : Match g shut active m s x
   pub arguments : StandArguments g m call.arguments x.core
   pub in_stack : (byte : ℕ) → IsArgument x.core (length call.arguments) byte → byte < stack_end
   pub allowed : (byte : ℕ) → IsArgument x.core (length call.arguments) byte → banned byte ≡ false
+  pub above : (byte : ℕ) → banned byte ≡ true → reg x.core 29 ≤ byte
   pub unowned : (byte : ℕ) → IsArgument x.core (length call.arguments) byte → Owner m s.objects byte → ⊥
 
 -- what stood at a call's beginning
