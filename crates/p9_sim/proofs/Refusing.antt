@@ -83,7 +83,7 @@ register_over_call set call s m d x p =
     let holds : HoldsWords (record j.core { regs = regs }) = with_register-words (record j.core { regs = first }) 1 0 (omega arith) first_words in
     let first_count_is = first_words.count in
     let w : State = with_regs j regs j.core.text_end in
-    let ans = answers-with set.ground set.loose set.shut set.shut set.active p.4 s j (length call.arguments) regs j.core.text_end (Word 0) at.matched holds
+    let ans = answers-with set.placing set.loose set.shut set.shut set.active p.4 s j (length call.arguments) regs j.core.text_end (Word 0) at.matched holds
       (other-register first 1 0 29 (λ h. omega (arith, h)) ∙ other-register j.core.regs 9 0 29 (λ h. omega (arith, h)))
       (other-register first 1 0 30 (λ h. omega (arith, h)) ∙ other-register j.core.regs 9 0 30 (λ h. omega (arith, h)))
       at.matched.free

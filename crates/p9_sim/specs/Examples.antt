@@ -77,7 +77,7 @@ right_first_code =
 abbrev pub RightFirst : Type 0
 RightFirst =
     (set : Setting) (left : Call) (s : c.State) (rest : Value → c.State → Play Value) (m : Map) (d : Count) (x : State)
-    → set.around.symbol 1 ≢ set.ground.function left.function
+    → set.around.symbol 1 ≢ set.placing.function left.function
     → Performs (with_code set right_first_code) (Ask left s rest) m d (at_first x) → ⊥
 
 -- R8 is counted down from 2^32 - 1 before anything else is done

@@ -38,7 +38,7 @@ abbrev pub setting_of : Ground → Counting → (symbol : ℕ → ℕ) → TextD
 setting_of g counting symbol def others active need entry =
     let sp : ℕ = lowered_stack def entry.state in
     record {
-      ground = g;
+      placing = g;
       counting = counting;
       around = around_framed symbol def sp others;
       def = def;
@@ -78,7 +78,7 @@ abbrev pub setting_over : Ground → Counting → (symbol : ℕ → ℕ) → AFu
 setting_over g counting symbol f l others active need entry =
     let sp : ℕ = lowered_stack (framed_as f l) entry.state in
     record {
-      ground = g;
+      placing = g;
       counting = counting;
       around = around_call symbol f l sp others;
       def = framed_as f l;

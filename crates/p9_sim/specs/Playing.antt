@@ -64,7 +64,7 @@ after_copy bytes d = record d { allowed = d.allowed + bytes }
 -- those that no live object may own; the needs of all active calls; of its caller the bytes that no
 -- live object may own, and the needs; and how it began.
 pub record Setting : Type 0 where
-  pub ground : Ground
+  pub placing : Ground
   pub counting : Counting
   pub around : Around
   pub def : TextDef
@@ -121,17 +121,17 @@ IsEven s x = (x.out ≡ s.output) × (x.left ≡ s.input)
 abbrev pub Performs : Setting → Play Value → Map → Count → Mach → Type 0
 Performs set (Done v s) m d x =
     (r : Reaches set x d) × (z : Mach) × (step_in set r.to ≡ Returns z) × IsPaid r.count × (n : Map)
-    × ((to : ℕ) → IsWord to → Answers set.ground nowhere set.outer_shut set.outer_active set.entry n s (after_return set to z) v)
+    × ((to : ℕ) → IsWord to → Answers set.placing nowhere set.outer_shut set.outer_active set.entry n s (after_return set to z) v)
 Performs set (Exit text s) m d x =
     (r : Reaches set x d) × (z : Mach) × (step_in set r.to ≡ Exits z) × (r.count.backs ≤ r.count.allowed) × (exit_text z.state.core ≡ text) × IsEven s z.state
 Performs set (Turn s p) m d x =
     (r : Reaches set x d) × IsPaid r.count × IsEven s r.to.state × Performs set p m (after_turn r.count) r.to
 Performs set (Moved bytes p) m d x = Performs set p m (after_copy bytes d) x
 Performs set (Ask call s k) m d x =
-    (r : Reaches set x d) × (z : Mach) × (step_in set r.to ≡ Calls (set.ground.function call.function) z) × IsPaid r.count × (n : Map) × Extends m n
-    × ((to : ℕ) → IsWord to → AtCall set.ground set.around.banned set.shut set.active n call s (after_jal to z))
+    (r : Reaches set x d) × (z : Mach) × (step_in set r.to ≡ Calls (set.placing.function call.function) z) × IsPaid r.count × (n : Map) × Extends m n
+    × ((to : ℕ) → IsWord to → AtCall set.placing set.around.banned set.shut set.active n call s (after_jal to z))
     × ((to : ℕ) → IsWord to → (v : Value) (t : c.State) (u : Map) (w : State)
-      → Answers set.ground set.loose set.shut set.active (entry_of n s call (after_jal to z)) u t w v
+      → Answers set.placing set.loose set.shut set.active (entry_of n s call (after_jal to z)) u t w v
       → Performs set (k v t) u (after_call r.count) (record z { state = w }))
 Performs set (Wrong why place s) m d x = Unit {0}
 Performs set (NoMeaning place s) m d x = Unit {0}
