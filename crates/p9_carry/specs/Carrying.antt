@@ -3,12 +3,13 @@ use Rattle.std.specs.Prelude.{◌≡◌, ◌≢◌, ◌≤◌, ◌↔◌, ℕ, �
 use Rattle.p9_abs.specs.declared.instructions.Abs.{Abs}
 use Rattle.p9_abs.specs.declared.instructions.AFunction.{AFunction}
 use Rattle.p9_abs.specs.declared.instructions.TextDef.{TextDef}
+use Rattle.p9_abs.specs.declared.regions.Region.{Region}
 use Rattle.p9_abs.specs.declared.forms.Form.{Form}
 use Rattle.p9_abs.specs.declared.forms.Form.TheVariants as forms
 use Rattle.p9_abs.specs.Automatics.{IsCode, form_at, is_variable}
 use Rattle.p9_abs.specs.Runs.{keeps, keeps_return}
 use Rattle.p9_abs.specs.OneCall.{Layout, IsLayout, in_words}
-use Rattle.p9_abs.specs.Keeping.{KeepsOver, KeepsFramed, layout_of}
+use Rattle.p9_abs.specs.Keeping.{KeepsOver, IsSettled}
 use Rattle.p9_cmean.specs.Cells.{FunctionName}
 use Rattle.p9_sim.specs.Memory.{Ground}
 use Rattle.p9_sim.specs.Playing.{Branches}
@@ -35,3 +36,11 @@ CarriesOver =
     (f h : AFunction) → IsCode f → HasSameLayouts f h → HasNoSystemCall f.code → HasNoSystemCall h.code → ((l : Layout) → IsLayout f l → KeepsOver f h l)
     → (g : Ground) (symbol : ℕ → ℕ) (need : ℕ) (body : Body) (name : FunctionName) → FnOkOver Branches g symbol f need body name
     → FnOkOver Branches g symbol h need body name
+
+-- FRAMED CODE: where code that is framed from f, with room for its frame, keeps the steps of f, it is
+-- right as f is
+abbrev pub CarriesFramed : Type 0
+CarriesFramed =
+    (f : AFunction) (rs : List Region) (homes : List (Option ℕ)) (def : TextDef) → IsCode f → HasNoSystemCall f.code → HasNoSystemCall def.code → IsSettled f rs homes def
+    → (g : Ground) (symbol : ℕ → ℕ) (need : ℕ) (body : Body) (name : FunctionName) → def.frame + 4 ≤ need → FnOkOver Branches g symbol f need body name
+    → FnOk Branches g symbol def need body name

@@ -3,4 +3,4 @@
 
 mod laws;
 
-pub use laws::carries_over;
+pub use laws::{carries_framed, carries_over};

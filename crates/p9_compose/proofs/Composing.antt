@@ -1,24 +1,24 @@
 -- Functions whose code is right make a program that is right, by induction on turns.
-use Rattle.std.proofs.Common.{◌≡◌, ◌≤◌, ◌<◌, ◌⊎◌, inl, inr, ℕ, zero, suc, ◌+◌, ◌-◌, ◌*◌, nat_lt, Bool, true, false, Option, Some, None, List, [], ◌∷◌, length, slice_get, refl, sym, ap, ◌∙◌, subst, arith, if◌then◌else◌}
+use Rattle.std.proofs.Common.{◌≡◌, ◌≤◌, ◌<◌, ◌⊎◌, inl, inr, ℕ, zero, suc, ◌+◌, ◌-◌, ◌*◌, nat_lt, Bool, true, false, Option, Some, List, [], ◌∷◌, length, slice_get, refl, sym, ap, ◌∙◌, subst, arith, if◌then◌else◌}
 use Rattle.std.proofs.lemmas.Bool.Decides.{nat_tests}
 use Rattle.p9_base.specs.Words.{IsWord}
-use Rattle.p9_base.specs.SystemCalls.{State, exit_text}
-use Rattle.p9_abs.specs.Steps.{Mach, Around, Step, Next, Turns, Calls, Returns, Exits, Undefined, step}
-use Rattle.p9_abs.specs.Runs.{Routine, Addresses, Active, Run, Status, Going, Gone, Broken, kept_by, entered_in, enters, routine_at, linked_to, raised, around_of, arun_from}
+use Rattle.p9_base.specs.SystemCalls.{State}
+use Rattle.p9_abs.specs.Steps.{Mach, Step, Next, Turns, Calls, Returns, Exits, Undefined, step}
+use Rattle.p9_abs.specs.Runs.{Routine, Addresses, Active, Status, Going, kept_by, entered_in, enters, linked_to, raised, around_of, arun_from}
 use Rattle.p9_abs.specs.Keeping.{nowhere}
 use Rattle.p9_cmean.specs.Cells as c
 use Rattle.p9_cmean.specs.Cells.{FunctionName, Value}
 use Rattle.p9_cmean.specs.Plays.{Call, Play, Done, Wrong, NoMeaning, Exit, Cut, Turn, Ask, Moved}
 use Rattle.p9_cmean.specs.PlayLaws.{Lasts}
-use Rattle.p9_cmean.specs.Turns.{Outcome, Ended, Out, Undefined as Wronged, Deep, NoOutcome, End, Gave, Over, and_then, resolve, Functions, room, call_in, calls_to}
+use Rattle.p9_cmean.specs.Turns.{Ended, Out, Undefined as Wronged, Deep, NoOutcome, End, Gave, Over, and_then, resolve, Functions, room, calls_to}
 use Rattle.p9_cmean.proofs.Plays.{lasts_less}
 use Rattle.p9_sim.specs.Memory.{Map, Ground}
 use Rattle.p9_sim.specs.Matching.{AtCall, Entry, entry_of, Answers}
-use Rattle.p9_sim.specs.Playing.{AllSteps, Count, first_count, IsPaid, after_plain, back_step, after_branch, after_call, after_turn, after_copy, Setting, step_in, Continues, Goes, Reaches, after_return, after_jal, Performs}
-use Rattle.p9_sim.specs.Functions.{after_entry, setting_of}
-use Rattle.p9_compose.specs.Calling.{HasCode, IsMeaningless, IsAbsent, IsProgram, run_at, waiting, resumed, step_limit, ComesTo, CallsAreRight}
+use Rattle.p9_sim.specs.Playing.{AllSteps, Count, first_count, IsPaid, after_plain, back_step, after_branch, after_call, after_turn, after_copy, Setting, step_in, Continues, Goes, Reaches, Performs}
+use Rattle.p9_sim.specs.Functions.{setting_of}
+use Rattle.p9_compose.specs.Calling.{HasCode, IsMeaningless, IsAbsent, IsProgram, run_at, waiting, ComesTo, CallsAreRight}
 use Rattle.p9_compose.proofs.Running.{runs-zero, runs-next, onward-step, back-or-not, cost-on, cost-back, cost-inner, cost-end, cost-over, cost-less}
-use Rattle.p9_compose.proofs.Shaping.{Bare, Plain, Shape, shaped}
+use Rattle.p9_compose.proofs.Shaping.{Plain, Shape, shaped}
 use Rattle.p9_compose.proofs.Ending.{call-inside}
 use Rattle.p9_compose.proofs.Entering.{kept_word, first_of, entered-going, kept-same, around-same}
 use Rattle.p9_abs.proofs.Growing.{runs_compose}
@@ -104,7 +104,7 @@ module _ (p : Addresses) (rs : List Routine) (g : Ground) (functions : Functions
       → step (around_of p rt (run_at y f kept callers)) rt.def.code y ≡ Calls (g.function call.function) z
       → AtCall g (kept_by (waiting f kept z ∷ callers)) (kept_by (waiting f kept z ∷ callers)) active m call s (linked_to (p.instruction f z.at) z.state)
       → ComesTo p rs g most n copied (Going (run_at y f kept callers)) (waiting f kept z) callers active (entry_of m s call (linked_to (p.instruction f z.at) z.state))
-        (calls_to d functions active n copied call s)
+      (calls_to d functions active n copied call s)
 
   module _ (st : Status) (k c0 f : ℕ) (a : Active) (callers : List Active) (rt : Routine) (is : slice_get rs f ≡ Some rt) (short : length rt.def.code ≤ most)
       (before need : ℕ) (entry : Entry) (after : IsWord (p.instruction a.routine a.after))
@@ -125,9 +125,9 @@ module _ (p : Addresses) (rs : List Routine) (g : Ground) (functions : Functions
     asked : (d : ℕ) (call : Call) (s : c.State) (rest : Value → c.State → Play Value) (m : Map) (e : Count) (y z : Mach) (n copied J I u : ℕ)
         → Stands n copied e y J I u → IsPaid e → Plain (length rt.def.code) y z
         → ((v : Value) (t : c.State) (x : Map) (w : State) (left c1 J1 I1 u1 : ℕ) → left < n
-          → Answers g nowhere (kept_by (waiting f own_kept z ∷ a ∷ callers)) (before + need) (entry_of m s call (linked_to (p.instruction f z.at) z.state)) x t w v
-          → Stands left c1 (after_call e) (record { state = w; vars = []; at = z.at }) J1 I1 u1
-          → Comes (resolve (calls_to d functions) (before + need) left c1 (rest v t)))
+        → Answers g nowhere (kept_by (waiting f own_kept z ∷ a ∷ callers)) (before + need) (entry_of m s call (linked_to (p.instruction f z.at) z.state)) x t w v
+        → Stands left c1 (after_call e) (record { state = w; vars = []; at = z.at }) J1 I1 u1
+        → Comes (resolve (calls_to d functions) (before + need) left c1 (rest v t)))
         → (inner : End)
         → ComesTo p rs g most n copied (Going (run_at y f own_kept (a ∷ callers))) (waiting f own_kept z) (a ∷ callers) (before + need) (entry_of m s call (linked_to (p.instruction f z.at) z.state)) inner
         → Comes (and_then inner (λ v t left moved. resolve (calls_to d functions) (before + need) left moved (rest v t)))
@@ -144,9 +144,15 @@ module _ (p : Addresses) (rs : List Routine) (g : Ground) (functions : Functions
           one = one;
         })
     asked d call s rest m e y z n copied J I u now paid plain go (Over (Ended text t) c1) h =
-        let below = plain.inside in
-        (J + h.0, h.1, runs_compose p rs J h.0 st ∙ (ap (arun_from p rs h.0) now.went ∙ h.2), h.3, h.4, h.5,
-        cost-over most J h.0 y.at e.backs u e.allowed n copied c0 c1 k now.cost (omega (arith, below, short)) paid.backs now.spent h.6)
+        let below = plain.inside in (
+          J + h.0,
+          h.1,
+          runs_compose p rs J h.0 st ∙ (ap (arun_from p rs h.0) now.went ∙ h.2),
+          h.3,
+          h.4,
+          h.5,
+          cost-over most J h.0 y.at e.backs u e.allowed n copied c0 c1 k now.cost (omega (arith, below, short)) paid.backs now.spent h.6,
+        )
     asked d call s rest m e y z n copied J I u now paid plain go (Over (Out waits t) c1) h =
         let turns = now.turns in let steps = now.steps in let enough = paid.steps in let took = h.5 in
         (J + h.0, h.1, runs_compose p rs J h.0 st ∙ (ap (arun_from p rs h.0) now.went ∙ h.2), h.3, h.4, omega (arith, turns, steps, enough, took))
@@ -166,20 +172,32 @@ module _ (p : Addresses) (rs : List Routine) (g : Ground) (functions : Functions
         let r = h.0 in
         let l = lifted x e r n copied J I u now in
         let below : r.to.at < length rt.def.code = shaped own.around rt.def.code r.to (Returns h.1) h.2 in
-        let turns = l.now.turns in let steps = l.now.steps in let enough = h.3.steps in let spent = l.now.spent in let one = l.now.one in
-        (l.J + 1, h.4, raised rt.def (linked_to (p.instruction a.routine a.after) h.1.state),
-        runs-next p rs l.J st _ _ l.now.went (onward-step p rs (run_at r.to f own_kept (a ∷ callers)) rt (Returns h.1) is (runs-on x r.to (Returns h.1) h.2)),
-        h.5 (p.instruction a.routine a.after) after, omega (arith, turns, one), l.now.more, omega (arith, turns, steps, enough),
-        cost-end most l.J r.to.at r.count.backs u r.count.allowed (n + c0) (k + copied) l.now.cost (omega (arith, below, short)) h.3.backs spent)
+        let turns = l.now.turns in let steps = l.now.steps in let enough = h.3.steps in let spent = l.now.spent in let one = l.now.one in (
+          l.J + 1,
+          h.4,
+          raised rt.def (linked_to (p.instruction a.routine a.after) h.1.state),
+          runs-next p rs l.J st _ _ l.now.went (onward-step p rs (run_at r.to f own_kept (a ∷ callers)) rt (Returns h.1) is (runs-on x r.to (Returns h.1) h.2)),
+          h.5 (p.instruction a.routine a.after) after,
+          omega (arith, turns, one),
+          l.now.more,
+          omega (arith, turns, steps, enough),
+          cost-end most l.J r.to.at r.count.backs u r.count.allowed (n + c0) (k + copied) l.now.cost (omega (arith, below, short)) h.3.backs spent,
+        )
     whole d ok (Wrong why place s) m e x n copied J I u le la h now = tt
     whole d ok (NoMeaning place s) m e x n copied J I u le la h now = tt
     whole d ok (Exit text s) m e x n copied J I u le la h now =
         let r = h.0 in
         let l = lifted x e r n copied J I u now in
         let below : r.to.at < length rt.def.code = shaped own.around rt.def.code r.to (Exits h.1) h.2 in
-        let spent = l.now.spent in
-        (l.J + 1, h.1.state, runs-next p rs l.J st _ _ l.now.went (onward-step p rs (run_at r.to f own_kept (a ∷ callers)) rt (Exits h.1) is (runs-on x r.to (Exits h.1) h.2)), h.4, h.5.0, h.5.1,
-        cost-less most (l.J + 1) n c0 k (k + copied) (cost-end most l.J r.to.at r.count.backs u r.count.allowed (n + c0) (k + copied) l.now.cost (omega (arith, below, short)) h.3 spent))
+        let spent = l.now.spent in (
+          l.J + 1,
+          h.1.state,
+          runs-next p rs l.J st _ _ l.now.went (onward-step p rs (run_at r.to f own_kept (a ∷ callers)) rt (Exits h.1) is (runs-on x r.to (Exits h.1) h.2)),
+          h.4,
+          h.5.0,
+          h.5.1,
+          cost-less most (l.J + 1) n c0 k (k + copied) (cost-end most l.J r.to.at r.count.backs u r.count.allowed (n + c0) (k + copied) l.now.cost (omega (arith, below, short)) h.3 spent),
+        )
     whole d ok (Cut s) m e x n copied J I u le la h now = absurd la
     whole d ok (Turn s q) m e x zero copied J I u le la h now =
         let r = h.0 in
@@ -191,12 +209,26 @@ module _ (p : Addresses) (rs : List Routine) (g : Ground) (functions : Functions
         let l = lifted x e r (suc n) copied J I u now in
         let turns = l.now.turns in let spent = l.now.spent in let one = l.now.one in
         whole d ok q m (after_turn r.count) r.to n copied l.J I u (omega arith) la h.3 (record {
-          went = l.now.went; turns = omega (arith, turns); steps = l.now.steps; cost = l.now.cost; spent = omega (arith, spent); vars = l.now.vars; more = l.now.more; one = omega (arith, one);
+          went = l.now.went;
+          turns = omega (arith, turns);
+          steps = l.now.steps;
+          cost = l.now.cost;
+          spent = omega (arith, spent);
+          vars = l.now.vars;
+          more = l.now.more;
+          one = omega (arith, one);
         })
     whole d ok (Moved b q) m e x n copied J I u le la h now =
         let spent = now.spent in let more = now.more in
         whole d ok q m (after_copy b e) x n (copied + b) J I u le la h (record {
-          went = now.went; turns = now.turns; steps = now.steps; cost = now.cost; spent = omega (arith, spent); vars = now.vars; more = omega (arith, more); one = now.one;
+          went = now.went;
+          turns = now.turns;
+          steps = now.steps;
+          cost = now.cost;
+          spent = omega (arith, spent);
+          vars = now.vars;
+          more = omega (arith, more);
+          one = now.one;
         })
     whole d ok (Ask call s rest) m e x n copied J I u le la h now =
         let r = h.0 in let z = h.1 in
@@ -207,12 +239,12 @@ module _ (p : Addresses) (rs : List Routine) (g : Ground) (functions : Functions
         let same : kept_by (waiting f own_kept z ∷ a ∷ callers) ≡ own.shut = kept-same rt.def entry.state f z (a ∷ callers) in
         asked d call s rest h.4 r.count r.to z n copied l.J I u l.now h.3 plain
         (λ v t y w left c1 J1 I1 u1 fewer ans later. whole d ok (rest v t) y (after_call r.count) (record { state = w; vars = []; at = z.at }) left c1 J1 I1 u1 (omega (arith, fewer, le))
-          (lasts_less (rest v t) n (suc left) (omega (arith, fewer)) (la v t))
-          (subst (λ vs. Performs own (rest v t) y (after_call r.count) (record { state = w; vars = vs; at = z.at })) (plain.bare l.now.vars)
-            (h.7 to word v t y w (subst (λ q. Answers g nowhere q (before + need) (entry_of h.4 s call (linked_to to z.state)) y t w v) same ans))) later)
+        (lasts_less (rest v t) n (suc left) (omega (arith, fewer)) (la v t))
+        (subst (λ vs. Performs own (rest v t) y (after_call r.count) (record { state = w; vars = vs; at = z.at })) (plain.bare l.now.vars)
+        (h.7 to word v t y w (subst (λ q. Answers g nowhere q (before + need) (entry_of h.4 s call (linked_to to z.state)) y t w v) same ans))) later)
         (calls_to d functions (before + need) n copied call s)
         (ok call s n copied (before + need) h.4 f own_kept (a ∷ callers) rt r.to z le is word (runs-on x r.to (Calls (g.function call.function) z) h.2)
-          (subst (λ q. AtCall g q q (before + need) h.4 call s (linked_to to z.state)) (sym same) (h.6 to word)))
+        (subst (λ q. AtCall g q q (before + need) h.4 call s (linked_to to z.state)) (sym same) (h.6 to word)))
 
   absent-end : (st : Status) (k c0 : ℕ) (a : Active) (callers : List Active) (before : ℕ) (entry : Entry) (d active n copied : ℕ) (q : Play Value) → IsMeaningless q
       → ComesTo p rs g most k c0 st a callers before entry (resolve (calls_to d functions) active n copied q)
@@ -245,7 +277,7 @@ module _ (p : Addresses) (rs : List Routine) (g : Ground) (functions : Functions
             → HasCode p rs g functions most call.function ⊎ IsAbsent functions call.function
             → CallsOk d
             → ComesTo p rs g most (suc n) copied (Going (run_at y f kept callers)) (waiting f kept z) callers active (entry_of m s call (linked_to (p.instruction f z.at) z.state))
-              (if b then Over (Deep call.place s) copied else resolve (calls_to d functions) (active + functions.need call.function) n copied (functions.body n call s))
+            (if b then Over (Deep call.place s) copied else resolve (calls_to d functions) (active + functions.need call.function) n copied (functions.body n call s))
         by true e i ok = tt
         by false e (inr absent) ok =
             absent-end (Going (run_at y f kept callers)) (suc n) copied (waiting f kept z) callers active (entry_of m s call (linked_to (p.instruction f z.at) z.state))
@@ -259,8 +291,8 @@ module _ (p : Addresses) (rs : List Routine) (g : Ground) (functions : Functions
             (λ y1 z1 to e1. i.placed z1.at (call-inside _ i.routine.def.code y1 z1 to i.ends_well e1))
             d ok (functions.body n call s) m first_count first n copied 1 0 0 (omega (arith, le)) (program.last n call s) o.1 (record {
               went = runs-next p rs 0 (Going (run_at y f kept callers)) (Going (run_at y f kept callers)) (Going (run_at first i.number (kept_word i.routine.def u) (v ∷ callers))) (runs-zero p rs _)
-                (onward-step p rs (run_at y f kept callers) rt (Calls (g.function call.function) z) is eq
-                ∙ (ap (λ q. enters rs q u (v ∷ callers)) i.found ∙ (ap (λ q. entered_in q u i.number (v ∷ callers)) i.is ∙ entered-going i.routine.def u i.number (v ∷ callers) o.0)));
+                  (onward-step p rs (run_at y f kept callers) rt (Calls (g.function call.function) z) is eq
+                  ∙ (ap (λ q. enters rs q u (v ∷ callers)) i.found ∙ (ap (λ q. entered_in q u i.number (v ∷ callers)) i.is ∙ entered-going i.routine.def u i.number (v ∷ callers) o.0)));
               turns = omega arith;
               steps = omega arith;
               cost = omega arith;

@@ -1,15 +1,13 @@
 -- A call stands before the last instruction of code that ends well.
-use Rattle.std.proofs.Common.{◌≡◌, ◌<◌, ◌⊎◌, inl, inr, ℕ, zero, suc, ◌+◌, Option, Some, None, List, [], ◌∷◌, length, map, slice_get, refl, sym, ap, ◌∙◌, subst, arith}
+use Rattle.std.proofs.Common.{◌≡◌, ◌<◌, ◌⊎◌, inl, inr, ℕ, zero, suc, ◌+◌, Some, List, [], ◌∷◌, length, map, slice_get, refl, sym, subst, arith}
 use Rattle.p9_abs.specs.declared.instructions.Abs.{Abs}
-use Rattle.p9_abs.specs.declared.instructions.Op.{Op}
 use Rattle.p9_abs.specs.declared.instructions.Op.TheVariants.{Ret, Jmp}
 use Rattle.p9_abs.specs.declared.forms.OperandKind.{OperandKind}
 use Rattle.p9_abs.specs.declared.forms.OperandKind.TheVariants.{Target}
-use Rattle.p9_abs.specs.declared.forms.Form.TheVariants as forms
 use Rattle.p9_abs.specs.Forms.{operand_kind, kinds_form}
 use Rattle.p9_abs.specs.Validity.{EndsWell}
 use Rattle.p9_abs.specs.Steps.{Mach, Around, Step, Next, Turns, Calls, Returns, Exits, Undefined, step, without_text, at_instruction, acts_as}
-use Rattle.p9_compose.proofs.Shaping.{Plain, Shape, shaped}
+use Rattle.p9_compose.proofs.Shaping.{Plain, shaped}
 
 abbrev IsCall : Step → Type 0
 IsCall (Next z) = ⊥
@@ -34,6 +32,7 @@ last-calls around code x a e last h = by last
   where
     is : IsCall (acts_as around (kinds_form a.op (map operand_kind a.operands)) (without_text x))
     is = subst (λ o. IsCall (at_instruction around o (without_text x))) e h
+
     by : (a.op ≡ Ret) ⊎ (a.op ≡ Jmp) → ⊥
     by (inl r) = return-calls around (without_text x) (map operand_kind a.operands) (subst (λ o. IsCall (acts_as around (kinds_form o (map operand_kind a.operands)) (without_text x))) r is)
     by (inr r) = jump-calls around (without_text x) (map operand_kind a.operands) (subst (λ o. IsCall (acts_as around (kinds_form o (map operand_kind a.operands)) (without_text x))) r is)

@@ -1,11 +1,11 @@
 -- The entry of a function in a run, and what its code stands in there.
-use Rattle.std.proofs.Common.{◌≡◌, ◌≤◌, ◌<◌, ℕ, ◌+◌, ◌-◌, ◌&&◌, ◌||◌, nat_le, Bool, true, false, Option, Some, None, if◌then◌else◌, List, [], ◌∷◌, refl, sym, ap, ◌∙◌, subst, arith}
+use Rattle.std.proofs.Common.{◌≡◌, ◌≤◌, ℕ, ◌+◌, ◌-◌, ◌&&◌, ◌||◌, nat_le, Bool, true, false, Option, Some, None, if◌then◌else◌, List, [], ◌∷◌, refl, arith}
 use Rattle.std.proofs.Math.Bool.{or_comm}
 use Rattle.std.proofs.lemmas.Bool.Decides.{nat_tests}
 use Rattle.p9_base.specs.Core.{stack_start, reg, with_word}
 use Rattle.p9_base.specs.SystemCalls.{State}
 use Rattle.p9_abs.specs.declared.instructions.TextDef.{TextDef}
-use Rattle.p9_abs.specs.Steps.{Mach, Around}
+use Rattle.p9_abs.specs.Steps.{Mach}
 use Rattle.p9_abs.specs.Runs.{Routine, Addresses, Active, Status, Going, Broken, keeps, taken_by, in_word, kept_by, lowered, at_first, kept_entry, entered, around_of}
 use Rattle.p9_abs.specs.Keeping.{around_framed}
 use Rattle.p9_sim.specs.Functions.{lowered_stack, after_entry, kept_with}

@@ -1,9 +1,8 @@
 -- Runs of a program, and what the steps of one call are in it.
-use Rattle.std.proofs.Common.{◌≡◌, ◌≤◌, ◌<◌, ◌⊎◌, inl, inr, ℕ, zero, suc, ◌+◌, ◌-◌, ◌*◌, ◌&&◌, nat_le, Bool, true, false, Option, Some, None, List, [], ◌∷◌, length, refl, sym, ap, ◌∙◌, subst, arith, if◌then◌else◌, slice_get, add-mul, mul-le-mul_right, one-mul}
+use Rattle.std.proofs.Common.{◌≡◌, ◌≤◌, ◌<◌, ◌⊎◌, inl, inr, ℕ, ◌+◌, ◌*◌, nat_le, Bool, true, false, Some, List, refl, sym, ap, ◌∙◌, subst, arith, if◌then◌else◌, slice_get, add-mul, mul-le-mul_right, one-mul}
 use Rattle.std.proofs.lemmas.Bool.Decides.{nat_tests}
-use Rattle.p9_abs.specs.Steps.{Mach, Step, step}
+use Rattle.p9_abs.specs.Steps.{Step, step}
 use Rattle.p9_abs.specs.Runs.{Routine, Addresses, Run, Status, Going, around_of, stepped, in_routine, onward, arun_from}
-use Rattle.p9_abs.specs.Keeping.{is_back}
 use Rattle.p9_abs.proofs.Growing.{runs_compose}
 use Rattle.p9_sim.specs.Playing.{back_step}
 

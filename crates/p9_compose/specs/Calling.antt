@@ -1,16 +1,16 @@
 -- What the run of a program comes to at a call, where the code of its functions is right.
-use Rattle.std.specs.Prelude.{◌≡◌, ◌⊎◌, ◌<◌, ◌≤◌, ℕ, suc, ◌+◌, ◌*◌, Bool, Option, Some, None, List, [], ◌∷◌, length, slice_get}
+use Rattle.std.specs.Prelude.{◌≡◌, ◌⊎◌, ◌<◌, ◌≤◌, ℕ, suc, ◌+◌, ◌*◌, Bool, Option, Some, List, [], ◌∷◌, length, slice_get}
 use Rattle.p9_base.specs.Words.{IsWord}
 use Rattle.p9_base.specs.SystemCalls.{State, exit_text}
 use Rattle.p9_abs.specs.Validity.{EndsWell}
-use Rattle.p9_abs.specs.Steps.{Mach, Step, Calls, step}
+use Rattle.p9_abs.specs.Steps.{Mach, Calls, step}
 use Rattle.p9_abs.specs.Runs.{Routine, Addresses, Active, Run, Status, Going, Gone, kept_by, routine_at, linked_to, around_of, arun_from}
 use Rattle.p9_abs.specs.Keeping.{nowhere}
 use Rattle.p9_cmean.specs.Cells as c
 use Rattle.p9_cmean.specs.Cells.{FunctionName, Value}
 use Rattle.p9_cmean.specs.Plays.{Call, Play, Done, Wrong, NoMeaning, Exit, Cut, Turn, Ask, Moved}
 use Rattle.p9_cmean.specs.PlayLaws.{Lasts}
-use Rattle.p9_cmean.specs.Turns.{Outcome, Ended, Out, Undefined, Deep, NoOutcome, End, Gave, Over, Functions, calls_to}
+use Rattle.p9_cmean.specs.Turns.{Ended, Out, Undefined, Deep, NoOutcome, End, Gave, Over, Functions, calls_to}
 use Rattle.p9_sim.specs.Memory.{Map, Ground}
 use Rattle.p9_sim.specs.Matching.{AtCall, Entry, entry_of, Answers}
 use Rattle.p9_sim.specs.Playing.{AllSteps}
@@ -100,7 +100,7 @@ CallsAreRight =
     → slice_get rs f ≡ Some rt → IsWord (p.instruction f z.at)
     → step (around_of p rt (run_at y f kept callers)) rt.def.code y ≡ Calls (g.function call.function) z
     → (let a : Active = waiting f kept z in
-      let others : ℕ → Bool = kept_by (a ∷ callers) in
-      let x : State = linked_to (p.instruction f z.at) z.state in
-      AtCall g others others active m call s x
-      → ComesTo p rs g most turns copied (Going (run_at y f kept callers)) a callers active (entry_of m s call x) (calls_to turns functions active turns copied call s))
+    let others : ℕ → Bool = kept_by (a ∷ callers) in
+    let x : State = linked_to (p.instruction f z.at) z.state in
+    AtCall g others others active m call s x
+    → ComesTo p rs g most turns copied (Going (run_at y f kept callers)) a callers active (entry_of m s call x) (calls_to turns functions active turns copied call s))

@@ -1,10 +1,10 @@
 -- Code that is right where branches, JMP and JAL alone are counted is right where all steps are.
-use Rattle.std.proofs.Common.{◌≡◌, ◌≤◌, ℕ, zero, suc, ◌+◌, Bool, true, false, List, [], refl, sym, ap, ◌∙◌, subst, arith}
+use Rattle.std.proofs.Common.{◌≡◌, ◌≤◌, ℕ, zero, suc, ◌+◌, [], refl, ap, subst, arith}
 use Rattle.p9_abs.specs.Steps.{Mach, Step, Next, Turns, Calls, Returns, Exits, Undefined}
 use Rattle.p9_cmean.specs.Cells.{Value}
 use Rattle.p9_cmean.specs.Plays.{Play, Done, Wrong, NoMeaning, Exit, Cut, Turn, Ask, Moved}
 use Rattle.p9_sim.specs.Memory.{Map}
-use Rattle.p9_sim.specs.Playing.{AllSteps, Branches, Count, first_count, IsPaid, after_plain, back_step, after_branch, after_call, after_turn, after_copy, Setting, step_in, Continues, Goes, Reaches, Performs}
+use Rattle.p9_sim.specs.Playing.{AllSteps, Branches, Count, first_count, IsPaid, after_plain, back_step, after_branch, after_call, after_turn, after_copy, Setting, step_in, Continues, Goes, Performs}
 use Rattle.p9_sim.specs.Matching.{entry_of}
 use Rattle.p9_sim.specs.Functions.{setting_of, after_entry}
 use Rattle.p9_sim.specs.Examples.{BranchesAreSteps}
@@ -53,16 +53,26 @@ module _ (base : Setting) where
       (record { steps = i.steps; to = i.to; count = g.0; goes = g.1 }, h.1, h.2, omega (arith, al, bk, fw), h.4, h.5)
   every-step (Cut s) m d e x r h = tt
   every-step (Turn s p) m d e x r h =
-      let i = h.0 in let g = goes-more i.steps x i.to d i.count e r i.goes in
-      (record { steps = i.steps; to = i.to; count = g.0; goes = g.1 }, paid-more i.count g.0 g.2 h.1, h.2,
-      every-step p m (after_turn i.count) (after_turn g.0) i.to (record { turns = ap (λ n. n + 1) g.2.turns; steps = g.2.steps; allowed = ap (λ n. n + 1) g.2.allowed; backs = g.2.backs }) h.3)
+      let i = h.0 in let g = goes-more i.steps x i.to d i.count e r i.goes in (
+        record { steps = i.steps; to = i.to; count = g.0; goes = g.1 },
+        paid-more i.count g.0 g.2 h.1,
+        h.2,
+        every-step p m (after_turn i.count) (after_turn g.0) i.to (record { turns = ap (λ n. n + 1) g.2.turns; steps = g.2.steps; allowed = ap (λ n. n + 1) g.2.allowed; backs = g.2.backs }) h.3,
+      )
   every-step (Moved n p) m d e x r h =
       every-step p m (after_copy n d) (after_copy n e) x (record { turns = r.turns; steps = r.steps; allowed = ap (λ k. k + n) r.allowed; backs = r.backs }) h
   every-step (Ask call s k) m d e x r h =
-      let i = h.0 in let g = goes-more i.steps x i.to d i.count e r i.goes in let st = g.2.steps in
-      (record { steps = i.steps; to = i.to; count = g.0; goes = g.1 }, h.1, h.2, paid-more i.count g.0 g.2 h.3, h.4, h.5, h.6,
-      λ to word v t u w ans. every-step (k v t) u (after_call i.count) (after_call g.0) (record h.1 { state = w })
-        (record { turns = g.2.turns; steps = omega (arith, st); allowed = g.2.allowed; backs = g.2.backs }) (h.7 to word v t u w ans))
+      let i = h.0 in let g = goes-more i.steps x i.to d i.count e r i.goes in let st = g.2.steps in (
+        record { steps = i.steps; to = i.to; count = g.0; goes = g.1 },
+        h.1,
+        h.2,
+        paid-more i.count g.0 g.2 h.3,
+        h.4,
+        h.5,
+        h.6,
+        λ to word v t u w ans. every-step (k v t) u (after_call i.count) (after_call g.0) (record h.1 { state = w })
+            (record { turns = g.2.turns; steps = omega (arith, st); allowed = g.2.allowed; backs = g.2.backs }) (h.7 to word v t u w ans),
+      )
 
 pub branches_are_steps : BranchesAreSteps
 branches_are_steps g symbol def need body name ok others active turns call s m x same fits at =

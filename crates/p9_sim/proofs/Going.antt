@@ -1,15 +1,14 @@
 -- The steps of a call come to one event alone; steps back only grow.
-use Rattle.std.proofs.Common.{◌≡◌, ◌≢◌, ◌≤◌, ◌<◌, ℕ, zero, suc, ◌+◌, Bool, true, false, if◌then◌else◌, List, [], ◌∷◌, ◌++◌, length, length-append, refl, sym, ap, ◌∙◌, subst, arith}
-use Rattle.p9_base.specs.Words.{IsWord}
+use Rattle.std.proofs.Common.{◌≡◌, ◌≤◌, ℕ, zero, suc, ◌+◌, Bool, true, false, if◌then◌else◌, List, ◌∷◌, ◌++◌, length, length-append, refl, sym, ap, ◌∙◌, subst, arith}
 use Rattle.p9_base.specs.SystemCalls.{State, exit_text}
 use Rattle.p9_abs.specs.declared.instructions.TextDef.{TextDef}
 use Rattle.p9_abs.specs.Steps.{Mach, Step, Next, Turns, Calls, Returns, Exits, Undefined}
 use Rattle.p9_abs.specs.Runs.{keeps, linked_to, raised}
 use Rattle.p9_cmean.specs.Cells as c
 use Rattle.p9_cmean.specs.Cells.{Value}
-use Rattle.p9_cmean.specs.Plays.{Play, Done, Exit}
+use Rattle.p9_cmean.specs.Plays.{Done, Exit}
 use Rattle.p9_sim.specs.Memory.{Map}
-use Rattle.p9_sim.specs.Playing.{AllSteps, Branches, Counting, Count, after_plain, after_branch, back_step, Setting, step_in, Continues, Goes, Reaches, after_return, IsEven, Performs}
+use Rattle.p9_sim.specs.Playing.{AllSteps, Branches, Counting, Count, after_plain, after_branch, Setting, step_in, Continues, Goes, IsEven, Performs}
 use Rattle.p9_sim.specs.Examples.{PrintedTwice, ReadBehindExit, OtherText}
 
 -- the step leaves the call, or waits for another

@@ -1,16 +1,16 @@
 -- Wrong codes are refused.
-use Rattle.std.proofs.Common.{◌≡◌, ◌≢◌, ◌≤◌, ◌<◌, ◌==◌, ℕ, zero, suc, ◌+◌, ◌-◌, ◌^◌, Bool, true, false, not, List, [], ◌∷◌, length, slice_index, refl, sym, ap, ◌∙◌, subst, arith}
+use Rattle.std.proofs.Common.{◌≡◌, ◌≤◌, ◌==◌, ℕ, ◌-◌, ◌^◌, true, not, List, [], length, slice_index, refl, sym, ap, ◌∙◌, subst, arith}
 use Rattle.std.proofs.lemmas.List.{get_or-set_same, length-set}
-use Rattle.p9_base.specs.Words.{IsWord, word_sum}
+use Rattle.p9_base.specs.Words.{word_sum}
 use Rattle.p9_base.specs.Core.{text_start, reg, with_reg}
 use Rattle.p9_base.specs.SystemCalls.{State}
 use Rattle.p9_base.specs.Holding.{HoldsWords}
 use Rattle.p9_base.proofs.Holding.{with_register-words}
-use Rattle.p9_abs.specs.Steps.{Mach, Around, Step, Next, Turns, Calls, Returns, Exits, Undefined, step, turns}
+use Rattle.p9_abs.specs.Steps.{Mach, Around, Next, Turns, Calls, Returns, step, turns}
 use Rattle.p9_abs.proofs.Fixed.{other-register}
 use Rattle.p9_cmean.specs.Cells as c
 use Rattle.p9_cmean.specs.Cells.{Value, Word}
-use Rattle.p9_cmean.specs.Plays.{Call, Play, Done, Ask}
+use Rattle.p9_cmean.specs.Plays.{Done}
 use Rattle.p9_sim.specs.Memory.{Map}
 use Rattle.p9_sim.specs.Playing.{Count, first_count, after_plain, after_branch, after_call, Setting, step_in, Goes, after_return, after_jal, Performs}
 use Rattle.p9_sim.specs.Examples.{with_code, at_first, register_code, RegisterOverCall, right_first_code, RightFirst, countdown_code, Countdown}
@@ -57,7 +57,7 @@ seven-given set s m d w words none p =
     let r = p.0 in
     let to : Mach = written w 1 (reg w.core 9) 3 in
     let same : r.to ≡ to = one-event here r.steps 1 (at_two w) r.to to d r.count (after_plain set.counting d) r.goes (subst IsEvent (sym p.2) tt)
-      (one-step here (at_two w) to d (kept-move set.around w)) (subst IsEvent (sym (kept-return set.around w)) tt) in
+    (one-step here (at_two w) to d (kept-move set.around w)) (subst IsEvent (sym (kept-return set.around w)) tt) in
     let is : p.1 ≡ to = returns-same p.1 to (sym p.2 ∙ (ap (step_in here) same ∙ kept-return set.around w)) in
     let result : 7 ≡ (let u : State = after_return here 0 p.1 in reg u.core 1) = (p.5 0 (omega arith)).leaves.result in
     let gives : 7 ≡ (let u : State = after_return here 0 to in reg u.core 1) = subst (λ z. 7 ≡ (let u : State = after_return here 0 z in reg u.core 1)) is result in
@@ -71,7 +71,7 @@ register_over_call set call s m d x p =
     let r = p.0 in
     let to : Mach = written x 9 7 1 in
     let same : r.to ≡ to = one-event here r.steps 1 (at_first x) r.to to d r.count (after_plain set.counting d) r.goes (subst IsEvent (sym p.2) tt)
-      (one-step here (at_first x) to d (kept-first set.around x)) (subst IsEvent (sym (kept-call set.around x)) tt) in
+    (one-step here (at_first x) to d (kept-first set.around x)) (subst IsEvent (sym (kept-call set.around x)) tt) in
     let is : p.1 ≡ record to { at = 2 } = (calls-same _ _ p.1 (record to { at = 2 }) (sym p.2 ∙ (ap (step_in here) same ∙ kept-call set.around x))).1 in
     let j : State = after_jal 0 p.1 in
     let at = p.6 0 (omega arith) in
@@ -84,10 +84,10 @@ register_over_call set call s m d x p =
     let first_count_is = first_words.count in
     let w : State = with_regs j regs j.core.text_end in
     let ans = answers-with set.placing set.loose set.shut set.shut set.active p.4 s j (length call.arguments) regs j.core.text_end (Word 0) at.matched holds
-      (other-register first 1 0 29 (λ h. omega (arith, h)) ∙ other-register j.core.regs 9 0 29 (λ h. omega (arith, h)))
-      (other-register first 1 0 30 (λ h. omega (arith, h)) ∙ other-register j.core.regs 9 0 30 (λ h. omega (arith, h)))
-      at.matched.free
-      (sym (get_or-set_same first 1 0 0 (omega (arith, first_count_is)))) in
+    (other-register first 1 0 29 (λ h. omega (arith, h)) ∙ other-register j.core.regs 9 0 29 (λ h. omega (arith, h)))
+    (other-register first 1 0 30 (λ h. omega (arith, h)) ∙ other-register j.core.regs 9 0 30 (λ h. omega (arith, h)))
+    at.matched.free
+    (sym (get_or-set_same first 1 0 0 (omega (arith, first_count_is)))) in
     let q = p.7 0 (omega arith) (Word 0) s p.4 w ans in
     seven-given set s p.4 (after_call r.count) w holds
     (other-register first 1 0 9 (λ h. omega (arith, h)) ∙ get_or-set_same j.core.regs 9 0 0 (omega (arith, count)))

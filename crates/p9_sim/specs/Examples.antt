@@ -3,7 +3,7 @@ use Rattle.std.specs.Prelude.{◌≡◌, ◌≢◌, ◌^◌, ◌-◌, ℕ, List,
 use Rattle.p9_base.specs.SystemCalls.{State, exit_text}
 use Rattle.p9_base.specs.Holding.{HoldsWords}
 use Rattle.p9_abs.specs.declared.instructions.Op.{Op}
-use Rattle.p9_abs.specs.declared.instructions.Op.TheVariants.{MovW, AddU, Bgtz, Bne, Jal, Ret}
+use Rattle.p9_abs.specs.declared.instructions.Op.TheVariants.{MovW, AddU, Bne, Jal, Ret}
 use Rattle.p9_abs.specs.declared.instructions.Operand.{Operand}
 use Rattle.p9_abs.specs.declared.instructions.Operand.TheVariants.{Reg, Const, Label, Func}
 use Rattle.p9_abs.specs.declared.instructions.Abs.{Abs}
@@ -13,7 +13,7 @@ use Rattle.p9_cmean.specs.Cells as c
 use Rattle.p9_cmean.specs.Cells.{FunctionName, Value, Word}
 use Rattle.p9_cmean.specs.Plays.{Call, Play, Done, Exit, Ask}
 use Rattle.p9_sim.specs.Memory.{Map, Ground}
-use Rattle.p9_sim.specs.Playing.{Counting, AllSteps, Branches, Count, first_count, Setting, step_in, Goes, IsEven, Performs}
+use Rattle.p9_sim.specs.Playing.{Counting, AllSteps, Branches, Count, first_count, Setting, step_in, Goes, Performs}
 use Rattle.p9_sim.specs.Functions.{Body, FnOk}
 
 abbrev pub inst : Op → List Operand → Abs

@@ -1,11 +1,10 @@
 -- When the code of a function is right: assembled code, and code over automatics under every layout.
 use Rattle.std.specs.Prelude.{◌≡◌, ◌≤◌, ℕ, ◌+◌, ◌-◌, ◌&&◌, ◌||◌, nat_le, nat_lt, not, Bool, Some, if◌then◌else◌, List, [], All}
 use Rattle.p9_base.specs.Words.{IsWord}
-use Rattle.p9_base.specs.Core.{Core, stack_start, reg, with_word}
+use Rattle.p9_base.specs.Core.{stack_start, reg, with_word}
 use Rattle.p9_base.specs.SystemCalls.{State}
 use Rattle.p9_abs.specs.declared.instructions.AFunction.{AFunction}
 use Rattle.p9_abs.specs.declared.instructions.TextDef.{TextDef}
-use Rattle.p9_abs.specs.Steps.{Mach, Around}
 use Rattle.p9_abs.specs.Runs.{keeps, taken_by, in_word, lowered}
 use Rattle.p9_abs.specs.OneCall.{Layout, IsLayout, in_automatic, in_gap, around_call}
 use Rattle.p9_abs.specs.Keeping.{HasVariables, nowhere, around_framed}
@@ -62,7 +61,7 @@ FnOk counting g symbol def need body name =
     → call.function ≡ name → active + need ≤ room → AtCall g others others active m call s x
     → (stack_start + taken_by def ≤ reg x.core 29)
     × Performs (setting_of g counting symbol def others active need (entry_of m s call x)) (body turns call s) m first_count
-      (record { state = after_entry def x; vars = []; at = 0 })
+    (record { state = after_entry def x; vars = []; at = 0 })
 
 -- CODE OVER AUTOMATICS
 
@@ -98,4 +97,4 @@ FnOkOver counting g symbol f need body name =
     → IsLayout f l → l.frame + 4 ≤ need → HasVariables f (record { state = x; vars = vars; at = 0 }) → All IsWord vars
     → call.function ≡ name → active + need ≤ room → AtCall g others others active m call s x
     → Performs (setting_over g counting symbol f l others active need (entry_of m s call x)) (body turns call s) m first_count
-      (record { state = after_entry (framed_as f l) x; vars = vars; at = 0 })
+    (record { state = after_entry (framed_as f l) x; vars = vars; at = 0 })

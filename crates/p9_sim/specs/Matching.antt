@@ -1,5 +1,5 @@
 -- When a state of the machine stands for a state of C; a call; and what a call leaves.
-use Rattle.std.specs.Prelude.{◌≡◌, ◌⊎◌, ◌<◌, ◌≤◌, ℕ, ◌+◌, ◌*◌, ◌%◌, Bool, true, false, Option, Some, None, List, [], ◌∷◌, length, slice_get}
+use Rattle.std.specs.Prelude.{◌≡◌, ◌⊎◌, ◌<◌, ◌≤◌, ℕ, ◌+◌, ◌*◌, ◌%◌, Bool, true, false, Some, None, List, [], ◌∷◌, length, slice_get}
 use Rattle.p9_base.specs.Core.{Core, stack_start, stack_end, low_end, reg, read_byte, read_word}
 use Rattle.p9_base.specs.SystemCalls.{State}
 use Rattle.p9_base.specs.Holding.{HoldsWords, AreBytes, LaidOut}

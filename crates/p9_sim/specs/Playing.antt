@@ -1,5 +1,5 @@
 -- When the code of a call does what a play does.
-use Rattle.std.specs.Prelude.{◌≡◌, ◌≤◌, ℕ, zero, suc, ◌+◌, Bool, true, false, if◌then◌else◌, List}
+use Rattle.std.specs.Prelude.{◌≡◌, ◌≤◌, ℕ, zero, suc, ◌+◌, Bool, if◌then◌else◌}
 use Rattle.p9_base.specs.Words.{IsWord}
 use Rattle.p9_base.specs.SystemCalls.{State, exit_text}
 use Rattle.p9_abs.specs.declared.instructions.TextDef.{TextDef}
@@ -8,7 +8,7 @@ use Rattle.p9_abs.specs.Runs.{linked_to, raised}
 use Rattle.p9_abs.specs.Keeping.{is_back, nowhere}
 use Rattle.p9_cmean.specs.Cells as c
 use Rattle.p9_cmean.specs.Cells.{Value}
-use Rattle.p9_cmean.specs.Plays.{Call, Play, Done, Wrong, NoMeaning, Exit, Cut, Turn, Ask, Moved}
+use Rattle.p9_cmean.specs.Plays.{Play, Done, Wrong, NoMeaning, Exit, Cut, Turn, Ask, Moved}
 use Rattle.p9_sim.specs.Memory.{Map, Extends, Ground}
 use Rattle.p9_sim.specs.Matching.{AtCall, Entry, entry_of, Answers}
 
@@ -131,8 +131,8 @@ Performs set (Ask call s k) m d x =
     (r : Reaches set x d) × (z : Mach) × (step_in set r.to ≡ Calls (set.placing.function call.function) z) × IsPaid r.count × (n : Map) × Extends m n
     × ((to : ℕ) → IsWord to → AtCall set.placing set.around.banned set.shut set.active n call s (after_jal to z))
     × ((to : ℕ) → IsWord to → (v : Value) (t : c.State) (u : Map) (w : State)
-      → Answers set.placing set.loose set.shut set.active (entry_of n s call (after_jal to z)) u t w v
-      → Performs set (k v t) u (after_call r.count) (record z { state = w }))
+    → Answers set.placing set.loose set.shut set.active (entry_of n s call (after_jal to z)) u t w v
+    → Performs set (k v t) u (after_call r.count) (record z { state = w }))
 Performs set (Wrong why place s) m d x = Unit {0}
 Performs set (NoMeaning place s) m d x = Unit {0}
 Performs set (Cut s) m d x = Unit {0}

@@ -1,5 +1,5 @@
 -- When the bytes of an object translate a module of C.
-use Rattle.std.specs.Prelude.{◌≡◌, ◌≢◌, ◌⊎◌, ◌<◌, ℕ, Bool, true, false, Option, Some, None, if◌then◌else◌, List, [], ◌∷◌, length, map, flat_map, slice_get, Contains}
+use Rattle.std.specs.Prelude.{◌≡◌, ◌≢◌, ◌⊎◌, ◌<◌, ℕ, Option, Some, None, if◌then◌else◌, List, [], length, map, flat_map, slice_get, Contains}
 use Rattle.p9_abs.specs.declared.instructions.TextDef.{TextDef}
 use Rattle.p9_abs.specs.declared.modules.DataPiece.{DataPiece}
 use Rattle.p9_abs.specs.declared.modules.DataPiece.TheVariants.{Raw, Address}
@@ -11,7 +11,7 @@ use Rattle.p9_abs.specs.Modules.{pieces_size, named_by_operand, named_by_piece, 
 use Rattle.p9_abs.specs.Programs.{IsCodeAddress}
 use Rattle.p9_object.specs.Fields.{spelling}
 use Rattle.p9_object.specs.Laws.{IsObject}
-use Rattle.p9_lang.specs.Types.{Tags, TypeTree}
+use Rattle.p9_lang.specs.Types.{Tags}
 use Rattle.p9_lang.specs.Layout.{size_of}
 use Rattle.p9_lang.specs.Modules.{Source}
 use Rattle.p9_lang.specs.Symbols as symbols
@@ -20,11 +20,11 @@ use Rattle.p9_sig.specs.Texts.{signature_text}
 use Rattle.p9_cmean.specs.Cells.{FunctionName, Cell, Byte}
 use Rattle.p9_cmean.specs.Access.{pointer_cells}
 use Rattle.p9_cmean.specs.Joins.{Join}
-use Rattle.p9_cmean.specs.Union.{Entry, Union, union_of, function_named}
+use Rattle.p9_cmean.specs.Union.{Union, union_of, function_named}
 use Rattle.p9_cmean.specs.FirstContents.{named_pointer, first_cells}
 use Rattle.p9_cmean.specs.CRun.{callee, NoCallee, functions_of}
 use Rattle.p9_sim.specs.Memory.{Ground, word_of}
-use Rattle.p9_sim.specs.Playing.{Counting, AllSteps}
+use Rattle.p9_sim.specs.Playing.{AllSteps}
 use Rattle.p9_sim.specs.Functions.{FnOk}
 
 -- SYMBOLS: the object has those of the module, in their order
