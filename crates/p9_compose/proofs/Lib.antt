@@ -1,0 +1,5 @@
+pub mod Running
+pub mod Shaping
+pub mod Ending
+pub mod Entering
+pub mod Composing

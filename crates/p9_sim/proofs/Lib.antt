@@ -1,0 +1,5 @@
+pub mod Registers
+pub mod Going
+pub mod Every
+pub mod Five
+pub mod Refusing
