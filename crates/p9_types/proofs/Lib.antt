@@ -1,0 +1,5 @@
+mod Arithmetic
+mod Shapes
+mod ArrayElements
+mod AlikeExtents
+mod Lists

@@ -1,0 +1,3 @@
+pub mod Capping
+pub mod Told
+pub mod Reaching

@@ -1,0 +1,10 @@
+//! Types of C: how large they are, where their members stand, and when a value of one type may
+//! stand where one of another is asked.
+#![tactic(auto)]
+
+mod capped;
+mod elements;
+mod fault;
+mod known;
+
+pub use fault::TypeFault;
