@@ -3,3 +3,5 @@ mod Shapes
 mod ArrayElements
 mod AlikeExtents
 mod Lists
+mod Weights
+mod Advancing

@@ -1,3 +1,4 @@
 pub mod Capping
 pub mod Told
 pub mod Reaching
+pub mod Tasks

@@ -6,5 +6,6 @@ mod capped;
 mod elements;
 mod fault;
 mod known;
+mod reaching;
 
 pub use fault::TypeFault;
