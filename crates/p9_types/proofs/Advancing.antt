@@ -1,5 +1,5 @@
 -- Tasks are taken from the end; what is taken leaves the others covered.
-use Rattle.std.proofs.Common.{◌≡◌, ◌≤◌, ◌<◌, ◌⊎◌, inl, inr, ℕ, zero, suc, ◌+◌, Bool, true, false, IsTrue, nat_eq, is_some, if◌then◌else◌, List, [], ◌∷◌, ◌++◌, length, slice_get, Option, Some, None, append_assoc, eq-eqb, refl, sym, ap, subst, ◌∙◌, arith}
+use Rattle.std.proofs.Common.{◌≡◌, ◌≤◌, ◌<◌, ◌⊎◌, inl, inr, ℕ, zero, suc, ◌+◌, Bool, true, false, IsTrue, nat_eq, is_some, if◌then◌else◌, List, [], ◌∷◌, ◌++◌, length, slice_get, Option, Some, None, append_assoc, eq-eqb, true≢false, refl, sym, ap, subst, ◌∙◌, arith}
 use Rattle.std.specs.Map.{lookup}
 use Rattle.std.proofs.lemmas.Bool.{eqb-true}
 use Rattle.p9_lang.specs.Types.{Tagged, Tags}
@@ -189,3 +189,21 @@ visits_append (i ∷ is) js = ap (λ ts. Visit i ∷ ts) (visits_append is js)
 pub visits_step : (tasks later : List Task) (is js : List ℕ) → later ≡ tasks ++ visits is → later ++ visits js ≡ tasks ++ visits (is ++ js)
 visits_step tasks later is js e =
     ap (λ ts. ts ++ visits js) e ∙ append_assoc tasks (visits is) (visits js) ∙ ap (λ ts. tasks ++ ts) (sym (visits_append is js))
+
+-- the first tasks, and none
+
+pub first_sound : (tags : Tags) (known : Table) → known ≡ [] → IsSound tags known
+first_sound tags known e i k = absurd (true≢false (sym k ∙ ap (λ t. is_known t i) e))
+
+pub first_awaits : (tags : Tags) (known : Table) (none tasks : List Task) (is : List ℕ) → none ≡ [] → tasks ≡ none ++ visits is → Awaits tags known tasks
+first_awaits tags known none tasks is e f = subst (Awaits tags known) (sym (f ∙ ap (λ ts. ts ++ visits is) e)) (visits_await tags known is)
+
+pub first_covered : (known : Table) (none tasks : List Task) (is : List ℕ) → none ≡ [] → tasks ≡ none ++ visits is → AreCovered known tasks is
+first_covered known none tasks is e f = subst (λ ts. AreCovered known ts is) (sym (f ∙ ap (λ ts. ts ++ visits is) e)) (visits_cover known is)
+
+pub covered_last : (known : Table) (tasks : List Task) (is : List ℕ) → tasks ≡ [] → AreCovered known tasks is → AreAll (λ i. IsTrue (is_known known i)) is
+covered_last known tasks is e h = all_along (Covered known tasks) (λ i. IsTrue (is_known known i)) bare is h
+  where
+    bare : (i : ℕ) → Covered known tasks i → IsTrue (is_known known i)
+    bare i (inl k) = k
+    bare i (inr s) = absurd (subst (λ ts. Stands ts i) e s)

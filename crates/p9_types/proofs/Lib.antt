@@ -5,3 +5,4 @@ mod AlikeExtents
 mod Lists
 mod Weights
 mod Advancing
+mod TagsAt

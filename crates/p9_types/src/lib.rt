@@ -6,6 +6,10 @@ mod capped;
 mod elements;
 mod fault;
 mod known;
+mod laying;
+mod layouts;
 mod reaching;
 
 pub use fault::TypeFault;
+pub use laying::layout;
+pub use layouts::Layout;
