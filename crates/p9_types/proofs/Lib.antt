@@ -6,3 +6,4 @@ mod Lists
 mod Weights
 mod Advancing
 mod TagsAt
+mod Laid
