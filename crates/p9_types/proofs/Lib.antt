@@ -7,3 +7,4 @@ mod Weights
 mod Advancing
 mod TagsAt
 mod Laid
+mod SampleTypes

@@ -61,7 +61,11 @@ impl Capped {
         ensures value { result ≡ member_offset is_union (told self) (told member) }
         ensures cut { result ≤ 16777220 }
     {
-        if is_union { 0 } else { rounded(self.size, member.align) }
+        if is_union {
+            0
+        } else {
+            rounded(self.size, member.align)
+        }
     }
 
     /// This with one member more.

@@ -9,6 +9,8 @@ mod known;
 mod laying;
 mod layouts;
 mod reaching;
+#[cfg(test)]
+mod tests;
 
 pub use fault::TypeFault;
 pub use laying::layout;
