@@ -1,0 +1,10 @@
+mod Arithmetic
+mod Shapes
+mod ArrayElements
+mod AlikeExtents
+mod Lists
+mod Weights
+mod Advancing
+mod TagsAt
+mod Laid
+mod SampleTypes

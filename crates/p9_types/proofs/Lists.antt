@@ -1,0 +1,12 @@
+-- Lists that are gone through from the front.
+use Rattle.std.proofs.Common.{◌≡◌, ◌≤◌, ◌-◌, ℕ, List, [], ◌∷◌, length, get_or, take, drop, refl, sym, ap, ◌∙◌, arith}
+use Rattle.std.proofs.lemmas.List.{take_all}
+
+-- the first of a list, and the others
+pub first_and_others : {X : Type 0} (xs : List X) (x : X) → 1 ≤ length xs → x ≡ get_or xs 0 x → xs ≡ x ∷ take (length xs - 1) (drop 1 xs)
+first_and_others [] x le e = absurd (omega arith)
+first_and_others (y ∷ ys) x le e = ap (λ z. z ∷ ys) (sym e) ∙ ap (λ l. x ∷ l) (sym (take_all (length (y ∷ ys) - 1) ys (omega arith)))
+
+pub empty_by_length : {X : Type 0} (xs : List X) → length xs ≡ 0 → xs ≡ []
+empty_by_length [] e = refl
+empty_by_length (x ∷ xs) e = absurd (omega arith)

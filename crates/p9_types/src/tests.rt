@@ -1,0 +1,85 @@
+ghost use Rattle.std.specs.Prelude.{◌≡◌, IfOk};
+ghost use Rattle.p9_lang.specs.Types.{type_of, member_of, tag_of, tags_of};
+ghost use Rattle.p9_types.specs.Examples.{sample_tag, sample};
+
+use crate::{Layout, TypeFault, layout};
+use p9_base::NoMemory;
+use p9_lang::{CType, Ident, Member, Tag, Tags};
+use sqlite_items::{Boxed, Items};
+use std::alloc::Global;
+use std::test::Fail;
+
+fn member(alloc: Global, name: &[u8], ty: CType) -> Result<Member, NoMemory>
+    ensures { IfOk result (λ m. member_of m ≡ record { name = name.now; type = type_of ty }) }
+{
+    let name = Ident {
+        list: Vec::from_slice(alloc, name)?,
+    };
+    Ok(Member { name, ty })
+}
+
+// `struct { char c; int n; short s; }`, or a union of these.
+fn sample_tag(alloc: Global, is_union: bool) -> Result<Tag, NoMemory>
+    ensures { IfOk result (λ t. tag_of t ≡ sample_tag is_union) }
+{
+    let mut members = Items::new(alloc);
+    members.push(member(alloc, b"c", CType::Char)?)?;
+    members.push(member(alloc, b"n", CType::Int)?)?;
+    members.push(member(alloc, b"s", CType::Short)?)?;
+    Ok(Tag {
+        is_union,
+        name: Ident {
+            list: Vec::new(alloc),
+        },
+        members: Some(members),
+        marked: false,
+    })
+}
+
+fn sample(alloc: Global, is_union: bool) -> Result<Tags, NoMemory>
+    ensures { IfOk result (λ t. tags_of t.list ≡ sample is_union) }
+{
+    let mut list = Items::new(alloc);
+    list.push(sample_tag(alloc, is_union)?)?;
+    Ok(Tags { list })
+}
+
+fn laid(alloc: Global, is_union: bool, ty: &CType) -> Result<Layout, TypeFault> {
+    let tags = sample(alloc, is_union)?;
+    layout(alloc, ty, &tags)
+}
+
+fn array(alloc: Global, element: CType, count: u32) -> Result<CType, NoMemory> {
+    Ok(CType::Array(Boxed::new(alloc, element)?, count))
+}
+
+#[test]
+fn structures_and_unions(rt: HostRuntime) -> Result<(), Fail> {
+    let structure = laid(rt.alloc(), false, &CType::Tagged(0))?;
+    assert_eq!(rt; structure.size, 12);
+    assert_eq!(rt; structure.align, 4);
+    let union_size = laid(rt.alloc(), true, &CType::Tagged(0))?.size;
+    assert_eq!(rt; union_size, 4);
+    Ok(())
+}
+
+#[test]
+fn incomplete(rt: HostRuntime) -> Result<(), Fail> {
+    let absent = laid(rt.alloc(), false, &CType::Tagged(1));
+    assert!(rt; matches!(absent, Err(TypeFault::Incomplete)));
+    let unknown = array(rt.alloc(), CType::Char, 0)?;
+    let answer = laid(rt.alloc(), false, &unknown);
+    assert!(rt; matches!(answer, Err(TypeFault::Incomplete)));
+    Ok(())
+}
+
+#[test]
+fn sizes_at_the_limit(rt: HostRuntime) -> Result<(), Fail> {
+    let largest = array(rt.alloc(), CType::Char, 16_777_216)?;
+    let size = laid(rt.alloc(), false, &largest)?.size;
+    assert_eq!(rt; size, 16_777_216);
+    let larger = array(rt.alloc(), CType::Char, 16_777_217)?;
+    let answer = laid(rt.alloc(), false, &larger);
+    assert!(rt; matches!(answer, Err(TypeFault::BadConstant)));
+    Ok(())
+}
