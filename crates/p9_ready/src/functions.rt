@@ -44,7 +44,9 @@ fn is_code(f: &AFunction) -> bool
     ensures { IsTrue result ↔ IsCode f.now }
 {
     let code = f.code.list.as_slice();
-    f.depth.list.len() == code.len() && ends_well(code) && are_instructions(f.autos.list.len(), code.len(), code)
+    f.depth.list.len() == code.len()
+        && ends_well(code)
+        && are_instructions(f.autos.list.len(), code.len(), code)
 }
 
 /// Whether the function may be given its frame.
