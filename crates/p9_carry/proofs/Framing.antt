@@ -3,8 +3,9 @@ use Rattle.std.proofs.Common.{◌≡◌, ◌≢◌, ◌≤◌, ◌<◌, ◌⊎�
 use Rattle.std.specs.List.{list_any}
 use Rattle.std.proofs.lemmas.Bool.{true≢false, and_parts, or_parts, leb-true}
 use Rattle.std.proofs.lemmas.Bool.Decides.{nat_tests}
+use Rattle.std.proofs.lemmas.List.Elements.{All-nil, All-cons, All-head, All-tail}
 use Rattle.p9_base.specs.Words.{IsWord}
-use Rattle.p9_base.specs.Core.{stack_start, reg, with_word}
+use Rattle.p9_base.specs.Core.{Core, stack_start, reg, with_word}
 use Rattle.p9_base.specs.SystemCalls.{State}
 use Rattle.p9_base.specs.Holding.{HoldsWords}
 use Rattle.p9_abs.specs.declared.instructions.Abs.{Abs}
@@ -36,8 +37,9 @@ use Rattle.p9_carry.proofs.Rows.{is_call, framed-calls}
 use Rattle.p9_carry.proofs.Places.{in-memory, mapped, AtVariable, variable-at, AtAutomatic, automatic-at, AtWord, word-at, layout-is, contents, contents-length, contents-hold, contents-words, contents-low}
 
 forms-of : (autos count : ℕ) (code : List Abs) → All (IsInstructionOf autos count) code → All IsForm code
-forms-of autos count [] h = tt
-forms-of autos count (a ∷ code) h = (h.0.form, forms-of autos count code h.1)
+forms-of autos count [] h = All-nil IsForm
+forms-of autos count (a ∷ code) h =
+    All-cons IsForm a code (let i = All-head (IsInstructionOf autos count) a code h in i.form) (forms-of autos count code (All-tail (IsInstructionOf autos count) a code h))
 
 -- code with a frame keeps its return address
 framed-keeps : (frame : ℕ) (calls : Bool) → 1 ≤ frame → (not (frame == 0) || calls) ≡ true
@@ -91,8 +93,11 @@ module _ (f : AFunction) (rs : List Region) (homes : List (Option ℕ)) (def : T
     entry = entry_of m s call x;
   }
 
+  abbrev core : Core
+  core = (let y : State = after_entry def x in y.core)
+
   abbrev vars : List ℕ
-  vars = (let y : State = after_entry def x in contents f y.core sp 0 p.offsets)
+  vars = contents f core sp 0 p.offsets
 
   abbrev start_a : Mach
   start_a = record { state = after_entry def x; vars = vars; at = 0 }
@@ -121,7 +126,7 @@ module _ (f : AFunction) (rs : List Region) (homes : List (Option ℕ)) (def : T
   begun : (v : List ℕ) → IsEntry def.frame (taken_by def) others (record { state = after_entry def x; vars = v; at = 0 })
   begun v = entry-is g others others active need m call s x def v at framed.frame room_is fits
 
-  words : (let y : State = after_entry def x in HoldsWords y.core)
+  words : HoldsWords core
   words = entry-words def x at.matched.words at.matched.laid
 
   below : sp ≤ reg x.core 29
@@ -239,8 +244,8 @@ module _ (f : AFunction) (rs : List Region) (homes : List (Option ℕ)) (def : T
 
   variables : HasVariables f (record { state = x; vars = vars; at = 0 })
   variables = record {
-    count = contents-length f _ sp words 0 p.offsets ∙ (sym (map-length p.offsets) ∙ framed.placed.count);
-    low = λ v value var e. (let n : 0 + v ≡ v = omega arith in subst (λ k. value < 2 ^ (8 * size_at f k)) n (contents-low f _ sp words 0 p.offsets v value e));
+    count = contents-length f core sp words 0 p.offsets ∙ (sym (map-length p.offsets) ∙ framed.placed.count);
+    low = λ v value var e. (let n : 0 + v ≡ v = omega arith in subst (λ k. value < 2 ^ (8 * size_at f k)) n (contents-low f core sp words 0 p.offsets v value e));
   }
 
   sync : KeepsFramed f p.offsets def → Sync base (around_call symbol f l sp others) (around_framed symbol def sp others) (framed_as f l) def base.loose nowhere base.shut shut_b apart sp suits start_a start_b
@@ -248,7 +253,7 @@ module _ (f : AFunction) (rs : List Region) (homes : List (Option ℕ)) (def : T
     out = refl;
     left = refl;
     stack = stack_is;
-    holds = record { words = words; input = (let e = begun [] in e.input); variables = tt };
+    holds = record { words = words; input = (let e = begun [] in e.input); variables = All-nil IsWord };
     follows = λ n. subst (λ k. Follows (λ b. nat_le k b && in_variable f 0 p.offsets (b - k)) (side_of symbol f l k others) (framed_side symbol def k others) n start_a start_b) stack_is
       (keeps_steps symbol others n start_a start_b (begun vars) (record { count = variables.count; low = variables.low }) refl refl holds_variables);
   }
@@ -256,8 +261,8 @@ module _ (f : AFunction) (rs : List Region) (homes : List (Option ℕ)) (def : T
       holds_variables : HoldsVariables f p.offsets start_a start_b
       holds_variables v q value var is h =
           let n : 0 + v ≡ v = omega arith in
-          contents-hold f _ sp words 0 p.offsets v q value is
-          (ap (λ k. content _ (sp + q) (size_at f k)) n ∙ (ap (λ k. content _ (k + q) (size_at f v)) (sym stack_is) ∙ h))
+          contents-hold f core sp words 0 p.offsets v q value is
+          (ap (λ k. content core (sp + q) (size_at f k)) n ∙ (ap (λ k. content core (k + q) (size_at f v)) (sym stack_is) ∙ h))
 
   framed-performs : (q : Play Value) → KeepsFramed f p.offsets def
       → Performs base q m first_count (record { state = after_entry (framed_as f l) x; vars = vars; at = 0 })
@@ -277,7 +282,7 @@ carries_framed f rs homes def code no_f no_def settled g symbol need body name r
     (ok l (vars f rs homes def p code no_f no_def framed g symbol need others active call s m x room_is fits at) others active turns call s m x
     (layout-is f def.frame p.offsets framed.frame framed.placed) room_is
     (variables f rs homes def p code no_f no_def framed g symbol need others active call s m x room_is fits at)
-    (contents-words f _ (lowered_stack (framed_as f l) x) (words f rs homes def p code no_f no_def framed g symbol need others active call s m x room_is fits at) 0 p.offsets) is fits at))
+    (contents-words f (core f rs homes def p code no_f no_def framed g symbol need others active call s m x room_is fits at) (lowered_stack (framed_as f l) x) (words f rs homes def p code no_f no_def framed g symbol need others active call s m x room_is fits at) 0 p.offsets) is fits at))
   where
     taken-small : (b : Bool) → (if b then def.frame + 4 else 0) ≤ def.frame + 4
     taken-small true = omega arith

@@ -1,6 +1,7 @@
 -- Code over the same automatics.
 use Rattle.std.proofs.Common.{◌≡◌, ◌≢◌, ◌≤◌, ◌<◌, ◌⊎◌, inl, inr, ℕ, zero, suc, ◌+◌, ◌-◌, ◌%◌, ◌^◌, ◌*◌, ◌&&◌, ◌||◌, nat_le, nat_lt, not, Bool, true, false, if◌then◌else◌, Option, Some, None, List, [], ◌∷◌, length, slice_get, slice_index, All, refl, sym, ap, ◌∙◌, subst, arith}
 use Rattle.std.proofs.lemmas.Bool.{true≢false, and_parts, leb-true}
+use Rattle.std.proofs.lemmas.List.Elements.{All-head, All-tail}
 use Rattle.p9_base.specs.Words.{IsWord}
 use Rattle.p9_base.specs.Core.{stack_start, reg, with_word}
 use Rattle.p9_base.specs.SystemCalls.{State}
@@ -29,8 +30,8 @@ use Rattle.p9_carry.proofs.Carrying.{Suits, Sync, EvenCount, carry}
 -- an instruction of a list with what holds of all
 pub at-each : (P : Abs → Type 0) (code : List Abs) (i : ℕ) (a : Abs) → All P code → slice_get code i ≡ Some a → P a
 at-each P [] i a h e = absurd (let z : None ≡ Some a = e in cc)
-at-each P (b ∷ code) zero a h e = subst P (let z : Some b ≡ Some a = e in cc) h.0
-at-each P (b ∷ code) (suc i) a h e = at-each P code i a h.1 e
+at-each P (b ∷ code) zero a h e = subst P (let z : Some b ≡ Some a = e in cc) (All-head P b code h)
+at-each P (b ∷ code) (suc i) a h e = at-each P code i a (All-tail P b code h) e
 
 -- words that both use are in the gap of neither
 pub gap-same : (f h : AFunction) (l : Layout) (sp byte : ℕ) → h.autos ≡ f.autos → in_words h.code (byte - sp) ≡ in_words f.code (byte - sp) → in_gap h l sp byte ≡ in_gap f l sp byte

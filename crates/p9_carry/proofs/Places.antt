@@ -3,6 +3,7 @@ use Rattle.std.proofs.Common.{◌≡◌, ◌≢◌, ◌≤◌, ◌<◌, ◌⊎�
 use Rattle.std.specs.Prelude.{unwrap_or}
 use Rattle.std.proofs.lemmas.Bool.{true≢false, and_parts, leb-true}
 use Rattle.std.proofs.lemmas.Bool.Decides.{nat_tests}
+use Rattle.std.proofs.lemmas.List.Elements.{All-nil, All-cons}
 use Rattle.std.proofs.lemmas.Nat.{pow_pos}
 use Rattle.p9_base.specs.Words.{IsWord}
 use Rattle.p9_base.specs.Core.{Core, read_byte, read_half, read_word}
@@ -84,14 +85,14 @@ module _ (f : AFunction) where
 
   pub variable-at : (i : ℕ) (ps : List ℕ) (b : ℕ) → in_variable f i ps b ≡ true → AtVariable i ps b
   variable-at i [] b e = absurd (true≢false (sym e))
-  variable-at i (p ∷ ps) b e = by (either (is_variable f i && (nat_le p b && nat_lt b (p + size_at f i))) (in_variable f (i + 1) ps b) e)
+  variable-at i (p ∷ ps) b e = by (variable-at (i + 1) ps b) (either (is_variable f i && (nat_le p b && nat_lt b (p + size_at f i))) (in_variable f (i + 1) ps b) e)
     where
-      by : ((is_variable f i && (nat_le p b && nat_lt b (p + size_at f i))) ≡ true) ⊎ (in_variable f (i + 1) ps b ≡ true) → AtVariable i (p ∷ ps) b
-      by (inl h) =
+      by : (in_variable f (i + 1) ps b ≡ true → AtVariable (i + 1) ps b) → ((is_variable f i && (nat_le p b && nat_lt b (p + size_at f i))) ≡ true) ⊎ (in_variable f (i + 1) ps b ≡ true) → AtVariable i (p ∷ ps) b
+      by later (inl h) =
           let a = and_parts (is_variable f i) (nat_le p b && nat_lt b (p + size_at f i)) h in let w = within p (size_at f i) b a.1 in let n : i ≡ i + 0 = omega arith in
           record { k = 0; q = p; is = refl; variable = ap (is_variable f) (sym n) ∙ a.0; low = w.0; high = subst (λ m. b < p + size_at f m) n w.1 }
-      by (inr h) =
-          let r = variable-at (i + 1) ps b h in let n : i + 1 + r.k ≡ i + suc r.k = omega arith in
+      by later (inr h) =
+          let r = later h in let n : i + 1 + r.k ≡ i + suc r.k = omega arith in
           record { k = suc r.k; q = r.q; is = r.is; variable = ap (is_variable f) (sym n) ∙ r.variable; low = r.low; high = subst (λ m. b < r.q + size_at f m) n r.high }
 
 -- byte b is in an automatic in memory
@@ -106,13 +107,13 @@ pub automatic-at : (ps : List (Option ℕ)) (sizes : List ℕ) (b : ℕ) → in_
 automatic-at [] sizes b e = absurd (true≢false (sym e))
 automatic-at (p ∷ ps) [] b e = absurd (true≢false (sym e))
 automatic-at (None ∷ ps) (size ∷ sizes) b e = let r = automatic-at ps sizes b e in record { k = suc r.k; q = r.q; is = r.is; low = r.low; high = r.high }
-automatic-at (Some p ∷ ps) (size ∷ sizes) b e = by (either (nat_le p b && nat_lt b (p + size)) (in_automatic ps sizes b) e)
+automatic-at (Some p ∷ ps) (size ∷ sizes) b e = by (automatic-at ps sizes b) (either (nat_le p b && nat_lt b (p + size)) (in_automatic ps sizes b) e)
   where
-    by : ((nat_le p b && nat_lt b (p + size)) ≡ true) ⊎ (in_automatic ps sizes b ≡ true) → AtAutomatic (Some p ∷ ps) (size ∷ sizes) b
-    by (inl h) =
+    by : (in_automatic ps sizes b ≡ true → AtAutomatic ps sizes b) → ((nat_le p b && nat_lt b (p + size)) ≡ true) ⊎ (in_automatic ps sizes b ≡ true) → AtAutomatic (Some p ∷ ps) (size ∷ sizes) b
+    by later (inl h) =
         let a = and_parts (nat_le p b) (nat_lt b (p + size)) h in let a1 = a.1 in
         record { k = 0; q = p; is = refl; low = leb-true p b a.0; high = grind (arith, nat_tests) }
-    by (inr h) = let r = automatic-at ps sizes b h in record { k = suc r.k; q = r.q; is = r.is; low = r.low; high = r.high }
+    by later (inr h) = let r = later h in record { k = suc r.k; q = r.q; is = r.is; low = r.low; high = r.high }
 
 -- WORDS IN USE
 
@@ -166,14 +167,14 @@ word-of-form code i b r _ e h = absurd (true≢false (sym h))
 
 pub word-at : (code : List Abs) (b m : ℕ) → in_words_below code b m ≡ true → AtWord code b
 word-at code b zero e = absurd (true≢false (sym e))
-word-at code b (suc m) e = by (either (reached code m && holds_of (in_word_of b) (form_at code m)) (in_words_below code b m) e)
+word-at code b (suc m) e = by (word-at code b m) (either (reached code m && holds_of (in_word_of b) (form_at code m)) (in_words_below code b m) e)
   where
     formed : (o : Option Form) → form_at code m ≡ o → reached code m ≡ true → holds_of (in_word_of b) o ≡ true → AtWord code b
     formed None f r h = absurd (true≢false (sym h))
     formed (Some form) f r h = word-of-form code m b r form f h
-    by : ((reached code m && holds_of (in_word_of b) (form_at code m)) ≡ true) ⊎ (in_words_below code b m ≡ true) → AtWord code b
-    by (inl h) = let a = and_parts (reached code m) (holds_of (in_word_of b) (form_at code m)) h in formed (form_at code m) refl a.0 a.1
-    by (inr h) = word-at code b m h
+    by : (in_words_below code b m ≡ true → AtWord code b) → ((reached code m && holds_of (in_word_of b) (form_at code m)) ≡ true) ⊎ (in_words_below code b m ≡ true) → AtWord code b
+    by later (inl h) = let a = and_parts (reached code m) (holds_of (in_word_of b) (form_at code m)) h in formed (form_at code m) refl a.0 a.1
+    by later (inr h) = later h
 
 -- THE LAYOUT in which framed code has these offsets
 
@@ -239,8 +240,8 @@ module _ (f : AFunction) (c : Core) (sp : ℕ) (words : HoldsWords c) where
       by false false false = omega arith
 
   pub contents-words : (i : ℕ) (ps : List ℕ) → All IsWord (contents f c sp i ps)
-  contents-words i [] = tt
-  contents-words i (p ∷ ps) = (content-word (sp + p) (size_at f i), contents-words (i + 1) ps)
+  contents-words i [] = All-nil IsWord
+  contents-words i (p ∷ ps) = All-cons IsWord _ (contents f c sp (i + 1) ps) (content-word (sp + p) (size_at f i)) (contents-words (i + 1) ps)
 
   pub contents-low : (i : ℕ) (ps : List ℕ) (k value : ℕ) → slice_get (contents f c sp i ps) k ≡ Some value → value < 2 ^ (8 * size_at f (i + k))
   contents-low i [] k value e = absurd (let z : None ≡ Some value = e in cc)

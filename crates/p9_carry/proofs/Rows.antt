@@ -2,6 +2,8 @@
 use Rattle.std.proofs.Common.{◌≡◌, ◌<◌, ℕ, zero, suc, ◌+◌, ◌==◌, ◌||◌, nat_lt, Bool, true, false, if◌then◌else◌, Option, Some, None, List, [], ◌∷◌, ◌++◌, map, All, refl, sym, ap, ◌∙◌, subst}
 use Rattle.std.specs.Prelude.{is_some, IsSome, slice_index}
 use Rattle.std.specs.List.{list_any}
+use Rattle.std.proofs.lemmas.Bool.{true≢false}
+use Rattle.std.proofs.lemmas.List.Elements.{All-head, All-tail}
 use Rattle.std.proofs.lemmas.List.Folds.{list_any-append}
 use Rattle.p9_abs.specs.declared.instructions.Op.{Op}
 use Rattle.p9_abs.specs.declared.instructions.Op.TheVariants.{MovW, MovH, MovHU, MovB, MovBU, Add, AddU, Sub, SubU, And, Or, Xor, Nor, Sgt, SgtU, Sll, Srl, Sra, Mul, MulU, Div, DivU, Beq, Bne, Bgez, Bgtz, Blez, Bltz, Jmp, Jal, Ret, Syscall}
@@ -146,35 +148,35 @@ module _ (rs : List Region) (homes : List (Option ℕ)) (p : Plan) (taken i : �
   jal-same : (os : List Operand) → IsSome (form_of Jal os) → holds_of calls_in (form_of Jal (map (framed_operand rs homes p taken i) os)) ≡ holds_of calls_in (form_of Jal os)
   jal-same (Func s ∷ []) h = refl
   jal-same (Reg r ∷ []) h = refl
-  jal-same [] h = absurd h
-  jal-same (Const c ∷ []) h = absurd h
-  jal-same (AddrSB s o ∷ []) h = absurd h
-  jal-same (AddrFP o ∷ []) h = absurd h
-  jal-same (AddrSP o ∷ []) h = absurd h
-  jal-same (MemSB s o ∷ []) h = absurd h
-  jal-same (MemFP o ∷ []) h = absurd h
-  jal-same (MemSP o ∷ []) h = absurd h
-  jal-same (MemReg r o ∷ []) h = absurd h
-  jal-same (Label l ∷ []) h = absurd h
-  jal-same (Hi ∷ []) h = absurd h
-  jal-same (Lo ∷ []) h = absurd h
-  jal-same (Auto v o ∷ []) h = absurd h
-  jal-same (AutoAddr v o ∷ []) h = absurd h
-  jal-same (Func s ∷ a ∷ os) h = absurd h
-  jal-same (Reg r ∷ a ∷ os) h = absurd h
-  jal-same (Const c ∷ a ∷ os) h = absurd h
-  jal-same (AddrSB s o ∷ a ∷ os) h = absurd h
-  jal-same (AddrFP o ∷ a ∷ os) h = absurd h
-  jal-same (AddrSP o ∷ a ∷ os) h = absurd h
-  jal-same (MemSB s o ∷ a ∷ os) h = absurd h
-  jal-same (MemFP o ∷ a ∷ os) h = absurd h
-  jal-same (MemSP o ∷ a ∷ os) h = absurd h
-  jal-same (MemReg r o ∷ a ∷ os) h = absurd h
-  jal-same (Label l ∷ a ∷ os) h = absurd h
-  jal-same (Hi ∷ a ∷ os) h = absurd h
-  jal-same (Lo ∷ a ∷ os) h = absurd h
-  jal-same (Auto v o ∷ a ∷ os) h = absurd h
-  jal-same (AutoAddr v o ∷ a ∷ os) h = absurd h
+  jal-same [] h = absurd (true≢false (sym h))
+  jal-same (Const c ∷ []) h = absurd (true≢false (sym h))
+  jal-same (AddrSB s o ∷ []) h = absurd (true≢false (sym h))
+  jal-same (AddrFP o ∷ []) h = absurd (true≢false (sym h))
+  jal-same (AddrSP o ∷ []) h = absurd (true≢false (sym h))
+  jal-same (MemSB s o ∷ []) h = absurd (true≢false (sym h))
+  jal-same (MemFP o ∷ []) h = absurd (true≢false (sym h))
+  jal-same (MemSP o ∷ []) h = absurd (true≢false (sym h))
+  jal-same (MemReg r o ∷ []) h = absurd (true≢false (sym h))
+  jal-same (Label l ∷ []) h = absurd (true≢false (sym h))
+  jal-same (Hi ∷ []) h = absurd (true≢false (sym h))
+  jal-same (Lo ∷ []) h = absurd (true≢false (sym h))
+  jal-same (Auto v o ∷ []) h = absurd (true≢false (sym h))
+  jal-same (AutoAddr v o ∷ []) h = absurd (true≢false (sym h))
+  jal-same (Func s ∷ a ∷ os) h = absurd (true≢false (sym h))
+  jal-same (Reg r ∷ a ∷ os) h = absurd (true≢false (sym h))
+  jal-same (Const c ∷ a ∷ os) h = absurd (true≢false (sym h))
+  jal-same (AddrSB s o ∷ a ∷ os) h = absurd (true≢false (sym h))
+  jal-same (AddrFP o ∷ a ∷ os) h = absurd (true≢false (sym h))
+  jal-same (AddrSP o ∷ a ∷ os) h = absurd (true≢false (sym h))
+  jal-same (MemSB s o ∷ a ∷ os) h = absurd (true≢false (sym h))
+  jal-same (MemFP o ∷ a ∷ os) h = absurd (true≢false (sym h))
+  jal-same (MemSP o ∷ a ∷ os) h = absurd (true≢false (sym h))
+  jal-same (MemReg r o ∷ a ∷ os) h = absurd (true≢false (sym h))
+  jal-same (Label l ∷ a ∷ os) h = absurd (true≢false (sym h))
+  jal-same (Hi ∷ a ∷ os) h = absurd (true≢false (sym h))
+  jal-same (Lo ∷ a ∷ os) h = absurd (true≢false (sym h))
+  jal-same (Auto v o ∷ a ∷ os) h = absurd (true≢false (sym h))
+  jal-same (AutoAddr v o ∷ a ∷ os) h = absurd (true≢false (sym h))
 
   both-quiet : (op : Op) (os : List Operand) → OrJal op (holds_of calls_in (form_of op (map (framed_operand rs homes p taken i) os)) ≡ holds_of calls_in (form_of op os))
   both-quiet op os = by op (others-quiet op (map operand_kind (map (framed_operand rs homes p taken i) os))) (others-quiet op (map operand_kind os))
@@ -202,7 +204,7 @@ blocks-calls f rs homes p taken i (a ∷ rest) h =
         (shifts-quiet f p (p.before i))
     ∙ (ap (λ b. holds_of calls_in (form_of a.op (map (framed_operand rs homes p taken i) a.operands)) || b)
         (list_any-append is_call (shifts_code f p (p.after i)) _ ∙ ap (λ b. b || list_any is_call (blocks f rs homes p taken (i + 1) rest)) (shifts-quiet f p (p.after i)))
-    ∙ (λ t. call-same rs homes p taken i a.op a.operands h.0 t || blocks-calls f rs homes p taken (i + 1) rest h.1 t)))
+    ∙ (λ t. call-same rs homes p taken i a.op a.operands (All-head IsForm a rest h) t || blocks-calls f rs homes p taken (i + 1) rest (All-tail IsForm a rest h) t)))
 
 pub framed-calls : (f : AFunction) (rs : List Region) (homes : List (Option ℕ)) (p : Plan) (taken : ℕ) (code : List Abs) → All IsForm f.code
     → code ≡ shifts_code f p p.entry ++ blocks f rs homes p taken 0 f.code → list_any is_call code ≡ list_any is_call f.code
