@@ -1,23 +1,22 @@
 -- States that are alike but for some bytes of the own frame: what is matched by one is matched by the other.
-use Rattle.std.proofs.Common.{◌≡◌, ◌≢◌, ◌≤◌, ◌<◌, ◌⊎◌, inl, inr, ℕ, zero, suc, ◌+◌, ◌-◌, ◌*◌, ◌%◌, ◌^◌, nat_lt, Bool, true, false, if◌then◌else◌, Option, Some, None, List, [], ◌∷◌, length, slice_get, slice_index, refl, sym, ap, ◌∙◌, subst, arith}
+use Rattle.std.proofs.Common.{◌≡◌, ◌≤◌, ◌<◌, inl, inr, ℕ, suc, ◌+◌, ◌-◌, ◌*◌, ◌%◌, ◌^◌, nat_lt, Bool, true, false, if◌then◌else◌, List, [], ◌∷◌, length, slice_index, refl, sym, ap, ◌∙◌, subst, arith}
 use Rattle.std.proofs.lemmas.Bool.Decides.{nat_tests}
 use Rattle.std.proofs.lemmas.List.{get_or-set_same, length-set}
 use Rattle.p9_base.specs.declared.order.ByteOrder.{ByteOrder}
 use Rattle.p9_base.specs.declared.order.ByteOrder.TheVariants.{Big, Little}
 use Rattle.p9_base.specs.Words.{IsWord, word_sum}
-use Rattle.p9_base.specs.Core.{Core, text_start, stack_start, stack_end, low_end, reg, with_reg, word_in, read_byte, read_word}
+use Rattle.p9_base.specs.Core.{Core, text_start, stack_start, stack_end, reg, with_reg, word_in, read_byte, read_word}
 use Rattle.p9_base.specs.SystemCalls.{State}
 use Rattle.p9_base.specs.Holding.{HoldsWords, AreBytes}
 use Rattle.p9_base.proofs.Holding.{with_register-words}
 use Rattle.p9_abs.specs.declared.instructions.TextDef.{TextDef}
-use Rattle.p9_abs.specs.Steps.{Mach}
 use Rattle.p9_abs.specs.Runs.{keeps, linked_to, raised}
-use Rattle.p9_abs.specs.Keeping.{SameMemory, Meet}
+use Rattle.p9_abs.specs.Keeping.{SameMemory}
 use Rattle.p9_abs.proofs.Fixed.{other-register}
 use Rattle.p9_cmean.specs.Cells as c
 use Rattle.p9_cmean.specs.Cells.{Cell, Object, Value}
 use Rattle.p9_cmean.specs.Turns.{room}
-use Rattle.p9_sim.specs.Memory.{Map, HasAddress, Ground, StandsValue, StandsCell, StandCells, Owner}
+use Rattle.p9_sim.specs.Memory.{Map, Ground, StandsValue, StandsCell, StandCells, Owner}
 use Rattle.p9_sim.specs.Matching.{IsLaidOut, Lies, Match, StandFrom, StandArguments, IsArgument}
 
 pub bool-not : (b : Bool) → (b ≡ true → ⊥) → b ≡ false
@@ -40,7 +39,13 @@ linked-alike apart x y to word k = record {
   stack = other-register x.core.regs 31 to 29 (λ h. omega (arith, h)) ∙ (k.stack ∙ sym (other-register y.core.regs 31 to 29 (λ h. omega (arith, h))));
   base = other-register x.core.regs 31 to 30 (λ h. omega (arith, h)) ∙ (k.base ∙ sym (other-register y.core.regs 31 to 30 (λ h. omega (arith, h))));
   memory = record {
-    bytes = k.memory.bytes; low = k.memory.low; stack = k.memory.stack; order = k.memory.order; data_start = k.memory.data_start; input = k.memory.input; output = k.memory.output;
+    bytes = k.memory.bytes;
+    low = k.memory.low;
+    stack = k.memory.stack;
+    order = k.memory.order;
+    data_start = k.memory.data_start;
+    input = k.memory.input;
+    output = k.memory.output;
   };
   words = with_register-words y.core 31 to word k.words;
 }
@@ -59,7 +64,13 @@ raised-alike-by true frame apart x y count k =
       stack = get_or-set_same x.core.regs 29 v 0 (omega (arith, count)) ∙ (ap (λ n. word_sum n (frame + 4)) k.stack ∙ sym (get_or-set_same y.core.regs 29 w 0 (omega (arith, counted))));
       base = other-register x.core.regs 29 v 30 (λ h. omega (arith, h)) ∙ (k.base ∙ sym (other-register y.core.regs 29 w 30 (λ h. omega (arith, h))));
       memory = record {
-        bytes = k.memory.bytes; low = k.memory.low; stack = k.memory.stack; order = k.memory.order; data_start = k.memory.data_start; input = k.memory.input; output = k.memory.output;
+        bytes = k.memory.bytes;
+        low = k.memory.low;
+        stack = k.memory.stack;
+        order = k.memory.order;
+        data_start = k.memory.data_start;
+        input = k.memory.input;
+        output = k.memory.output;
       };
       words = with_register-words y.core 29 w (omega arith) k.words;
     }
@@ -88,9 +99,10 @@ pub stands-same : (g : Ground) (m : Map) (p q : ℕ → ℕ) (cells : List Cell)
 stands-same g m p q [] start same h = tt
 stands-same g m p q (cell ∷ cells) start same h =
     let z : start + 0 ≡ start = omega arith in
-    let first : p start ≡ q start = subst (λ n. p n ≡ q n) z (same 0 (omega arith)) in
-    (subst (λ b. StandsCell g m cell b) first h.0,
-    stands-same g m p q cells (start + 1) (λ i l. let n : start + suc i ≡ start + 1 + i = omega arith in subst (λ k. p k ≡ q k) n (same (suc i) (omega (arith, l)))) h.1)
+    let first : p start ≡ q start = subst (λ n. p n ≡ q n) z (same 0 (omega arith)) in (
+      subst (λ b. StandsCell g m cell b) first h.0,
+      stands-same g m p q cells (start + 1) (λ i l. let n : start + suc i ≡ start + 1 + i = omega arith in subst (λ k. p k ≡ q k) n (same (suc i) (omega (arith, l)))) h.1,
+    )
 
 byte-high : (x : Core) (a : ℕ) → stack_start ≤ a → read_byte x a ≡ slice_index x.stack (a - stack_start)
 byte-high x a h = by (nat_lt a stack_start) refl
@@ -134,10 +146,12 @@ laid-alike apart x y k l =
 pub match-alike : (g : Ground) (shut other apart : ℕ → Bool) (active : ℕ) (m : Map) (s : c.State) (x y : State)
     → ((byte : ℕ) → Owner m s.objects byte → (other byte ≡ false) × (apart byte ≡ false)) → Alike apart x y → Match g shut active m s x → Match g other active m s y
 match-alike g shut other apart active m s x y free k h = record {
-  count = h.count; statics = h.statics; fourfold = h.fourfold;
+  count = h.count;
+  statics = h.statics;
+  fourfold = h.fourfold;
   cells = λ number start object is alive placed. stands-same g m (read_byte x.core) (read_byte y.core) object.cells start
-    (λ i l. k.memory.bytes (start + i) (free (start + i) (record { number = number; object = object; start = start; k = i; is_object = is; alive = alive; placed = placed; inside = l; is = refl })).1)
-    (h.cells number start object is alive placed);
+      (λ i l. k.memory.bytes (start + i) (free (start + i) (record { number = number; object = object; start = start; k = i; is_object = is; alive = alive; placed = placed; inside = l; is = refl })).1)
+      (h.cells number start object is alive placed);
   lie = λ byte w. lies byte (h.lie byte w);
   disjoint = h.disjoint;
   free = λ byte w. (free byte w).0;
@@ -165,9 +179,10 @@ from-alike : (g : Ground) (apart : ℕ → Bool) (m : Map) (k : ℕ) (vs : List 
 from-alike g apart m k [] x y l high out h = tt
 from-alike g apart m k (v ∷ vs) x y l high out h =
     let w : read_word x.core (reg x.core 29 + 4 + 4 * k) ≡ read_word y.core (reg x.core 29 + 4 + 4 * k) =
-      word-alike apart x y (reg x.core 29 + 4 + 4 * k) l.memory (omega (arith, high)) (λ i j. out (reg x.core 29 + 4 + 4 * k + i) (omega arith) (omega (arith, j))) in
-    (subst (λ z. StandsValue g m v z) (w ∙ ap (λ z. read_word y.core (z + 4 + 4 * k)) l.stack) h.0,
-    from-alike g apart m (k + 1) vs x y l high (λ n p q. out n (omega (arith, p)) (omega (arith, q))) h.1)
+    word-alike apart x y (reg x.core 29 + 4 + 4 * k) l.memory (omega (arith, high)) (λ i j. out (reg x.core 29 + 4 + 4 * k + i) (omega arith) (omega (arith, j))) in (
+      subst (λ z. StandsValue g m v z) (w ∙ ap (λ z. read_word y.core (z + 4 + 4 * k)) l.stack) h.0,
+      from-alike g apart m (k + 1) vs x y l high (λ n p q. out n (omega (arith, p)) (omega (arith, q))) h.1,
+    )
 
 pub arguments-alike : (g : Ground) (apart : ℕ → Bool) (m : Map) (vs : List Value) (x y : State) → Alike apart x y → stack_start ≤ reg x.core 29
     → ((n : ℕ) → IsArgument x.core (length vs) n → apart n ≡ false) → StandArguments g m vs x.core → StandArguments g m vs y.core

@@ -1,20 +1,18 @@
 -- The law of carrying: what follows code that does what a play does, does it too.
-use Rattle.std.proofs.Common.{◌≡◌, ◌≢◌, ◌≤◌, ◌<◌, ◌⊎◌, inl, inr, ℕ, zero, suc, ◌+◌, ◌-◌, ◌*◌, nat_lt, Bool, true, false, if◌then◌else◌, Option, Some, None, List, [], ◌∷◌, ◌++◌, length, length-append, slice_get, refl, sym, ap, ◌∙◌, subst, arith}
+use Rattle.std.proofs.Common.{◌≡◌, ◌≢◌, ◌≤◌, ◌<◌, ◌⊎◌, inl, inr, ℕ, zero, suc, ◌+◌, nat_lt, Bool, true, false, if◌then◌else◌, Option, Some, None, List, [], ◌∷◌, ◌++◌, length, slice_get, refl, sym, ap, ◌∙◌, subst, arith}
 use Rattle.std.proofs.lemmas.Bool.{true≢false}
 use Rattle.std.proofs.lemmas.Bool.Decides.{nat_tests}
-use Rattle.std.proofs.lemmas.Option.{slice_get_past}
 use Rattle.p9_base.specs.Words.{IsWord}
-use Rattle.p9_base.specs.Core.{Core, stack_start, stack_end, low_end, reg, read_byte}
+use Rattle.p9_base.specs.Core.{stack_start, reg}
 use Rattle.p9_base.specs.SystemCalls.{State}
-use Rattle.p9_base.specs.Holding.{HoldsWords, AreBytes}
+use Rattle.p9_base.specs.Holding.{HoldsWords}
 use Rattle.p9_abs.specs.declared.instructions.Abs.{Abs}
 use Rattle.p9_abs.specs.declared.instructions.TextDef.{TextDef}
-use Rattle.p9_abs.specs.declared.forms.Form.{Form}
 use Rattle.p9_abs.specs.declared.forms.Form.TheVariants as forms
 use Rattle.p9_abs.specs.Validity.{writes_last, IsWritable}
 use Rattle.p9_abs.specs.Automatics.{form_at}
 use Rattle.p9_abs.specs.Steps.{Mach, Around, Step, Next, Turns, Calls, Returns, Exits, Undefined, step, without_text, at_instruction}
-use Rattle.p9_abs.specs.Runs.{keeps, linked_to, raised}
+use Rattle.p9_abs.specs.Runs.{keeps, linked_to}
 use Rattle.p9_abs.specs.Keeping.{SameMemory, SameSizes, Meet, Side, steps_of, Quiet, is_back, FollowsBy, Follows, nowhere}
 use Rattle.p9_abs.specs.Keeping as keeping
 use Rattle.p9_abs.specs.Laws.{IfMach, Holds, IsSilent}
@@ -23,10 +21,10 @@ use Rattle.p9_abs.proofs.Fixed.{stack_stays, other-register}
 use Rattle.p9_cmean.specs.Cells as c
 use Rattle.p9_cmean.specs.Cells.{FunctionName, Object, Value}
 use Rattle.p9_cmean.specs.Plays.{Call, Play, Done, Wrong, NoMeaning, Exit, Cut, Turn, Ask, Moved}
-use Rattle.p9_sim.specs.Memory.{Map, HasAddress, Extends, Ground, StandsValue, Owner}
-use Rattle.p9_sim.specs.Matching.{Lies, Match, IsArgument, AtCall, Entry, entry_of, Leaves, Answers}
-use Rattle.p9_sim.specs.Playing.{AllSteps, Branches, Count, IsPaid, after_plain, back_step, after_branch, after_call, after_turn, after_copy, Setting, step_in, Continues, Goes, Reaches, after_return, after_jal, IsEven, Performs}
-use Rattle.p9_carry.proofs.Alike.{bool-not, Alike, linked-alike, raised-alike, raised-count, linked-count, match-alike, arguments-alike}
+use Rattle.p9_sim.specs.Memory.{Map, Ground, StandsValue, Owner}
+use Rattle.p9_sim.specs.Matching.{Lies, IsArgument, AtCall, Entry, entry_of, Leaves, Answers}
+use Rattle.p9_sim.specs.Playing.{Branches, Count, IsPaid, after_plain, after_branch, after_call, after_turn, after_copy, Setting, step_in, Continues, Goes, after_return, Performs}
+use Rattle.p9_carry.proofs.Alike.{bool-not, Alike, linked-alike, raised-alike, raised-count, match-alike, arguments-alike}
 
 abbrev IsEvent : Step → Type 0
 IsEvent (Next z) = ⊥
@@ -86,12 +84,15 @@ owner-before g loose from u t w v byte l count o = by (split o.number (length fr
         go : (z : Bool) → nat_lt i j ≡ z → (i < j) ⊎ (j ≤ i)
         go true e = inl (grind (arith, nat_tests))
         go false e = inr (grind (arith, nat_tests))
+
     front : (m more : Map) (i : ℕ) → i < length m → slice_get (m ++ more) i ≡ slice_get m i
     front [] more i h = absurd (omega (arith, h))
     front (x ∷ m) more zero h = refl
     front (x ∷ m) more (suc i) h = front m more i (omega (arith, h))
+
     some-same : (a b : Object) → Some a ≡ Some b → a ≡ b
     some-same a b e = cc
+
     old : (a : Object) → slice_get from.objects o.number ≡ Some a → o.number < length from.map → Owner from.map from.objects byte
     old a e i =
         let q = l.objects.earlier o.number a e in
@@ -99,11 +100,17 @@ owner-before g loose from u t w v byte l count o = by (split o.number (length fr
         let size : length o.object.cells ≡ length a.cells = ap (λ z. length z.cells) (sym same) ∙ q.2 in
         let inside = o.inside in
         record {
-          number = o.number; object = a; start = o.start; k = o.k; is_object = e;
+          number = o.number;
+          object = a;
+          start = o.start;
+          k = o.k;
+          is_object = e;
           alive = sym q.3 ∙ (ap (λ z. z.is_alive) same ∙ o.alive);
           placed = sym (front from.map l.addresses.more o.number i) ∙ (ap (λ z. slice_get z o.number) (sym l.addresses.is) ∙ o.placed);
-          inside = omega (arith, size, inside); is = o.is;
+          inside = omega (arith, size, inside);
+          is = o.is;
         }
+
     find : (r : Option Object) → slice_get from.objects o.number ≡ r → o.number < length from.objects → Owner from.map from.objects byte
     find (Some a) e i = old a e (omega (arith, i, count))
     find None e i = absurd (none-past from.objects o.number e i)
@@ -112,6 +119,7 @@ owner-before g loose from u t w v byte l count o = by (split o.number (length fr
         none-past [] n h i = omega (arith, i)
         none-past (x ∷ xs) zero h i = let z : Some x ≡ None = h in cc
         none-past (x ∷ xs) (suc n) h i = none-past xs n h (omega (arith, i))
+
     by : (o.number < length from.objects) ⊎ (length from.objects ≤ o.number) → Owner from.map from.objects byte
     by (inl i) = find (slice_get from.objects o.number) refl i
     by (inr i) = absurd (let z : true ≡ false = sym o.alive ∙ l.objects.later o.number o.object i o.is_object in true≢false z)
@@ -194,6 +202,7 @@ module _ (base : Setting) (around_a around_b : Around) (def_a def_b : TextDef) (
         weaken (Returns y) h = h.0
         weaken (Exits y) h = h.0
         weaken Undefined h = tt
+
         go : (o : Option Abs) → slice_get def_a.code x.at ≡ o → KeepsStack x (steps_of side_a x)
         go None f = subst (KeepsStack x) (sym (past-end around_a def_a.code x f)) tt
         go (Some ins) f = weaken (steps_of side_a x) (stack_stays around_a def_a.code x ins f (suits.destinations x.at ins f))
@@ -249,7 +258,7 @@ module _ (base : Setting) (around_a around_b : Around) (def_a def_b : TextDef) (
         by (Turns taken z) h g' f rec =
             let w = f 0 in
             let same : (n : ℕ) → (f n).2 ≡ w.2 = λ n. turns-same taken taken (f n).2 w.2 (sym (f n).4
-              ∙ (ap (steps_of side_b) (quiet-same side_b (f n).0 w.0 y (f n).1 w.1 (f n).3 (subst IsEvent (sym (f n).4) tt) w.3 (subst IsEvent (sym w.4) tt)) ∙ w.4)) in
+            ∙ (ap (steps_of side_b) (quiet-same side_b (f n).0 w.0 y (f n).1 w.1 (f n).3 (subst IsEvent (sym (f n).4) tt) w.3 (subst IsEvent (sym w.4) tt)) ∙ w.4)) in
             let si = silent-a x (Turns taken z) h in
             let qe = quiet-even w.0 y w.1 w.3 in
             let sb = silent-b w.1 (Turns taken w.2) w.4 in
@@ -257,16 +266,21 @@ module _ (base : Setting) (around_a around_b : Around) (def_a def_b : TextDef) (
             let fewer = backs-less (is_back taken w.1.at w.2.at) (is_back taken x.at z.at) w.5 in
             let t = ev.turns in let s = ev.steps in let al = ev.allowed in let bk = ev.backs in
             let r = rec z (after_branch taken x.at z.at d) w.2 m g' (record { turns = t; steps = omega (arith, s); allowed = al; backs = omega (arith, bk, fewer) })
-              (record {
-                out = sb.0 ∙ (qe.0 ∙ (sy.out ∙ sym si.0)); left = sb.1 ∙ (qe.1 ∙ (sy.left ∙ sym si.1)); stack = stack-step x (Turns taken z) h ∙ sy.stack;
-                holds = holds-step w.1 (Turns taken w.2) w.4 (quiet-holds w.0 y w.1 w.3 sy.holds);
-                follows = λ n. subst (Follows apart side_a side_b n z) (same n) (f n).6;
-              }) in
+            (record {
+              out = sb.0 ∙ (qe.0 ∙ (sy.out ∙ sym si.0));
+              left = sb.1 ∙ (qe.1 ∙ (sy.left ∙ sym si.1));
+              stack = stack-step x (Turns taken z) h ∙ sy.stack;
+              holds = holds-step w.1 (Turns taken w.2) w.4 (quiet-holds w.0 y w.1 w.3 sy.holds);
+              follows = λ n. subst (Follows apart side_a side_b n z) (same n) (f n).6;
+            }) in
             let one : Goes b 1 w.1 d' w.2 m = subst (λ q. Continues b q w.1.at d' (λ u n. Goes b 0 u n w.2 m)) (sym w.4) (refl, refl) in
             record {
-              to = r.to; steps = (w.0 + 1) + r.steps; count = r.count;
+              to = r.to;
+              steps = (w.0 + 1) + r.steps;
+              count = r.count;
               goes = goes-goes (w.0 + 1) r.steps y w.2 r.to d' m r.count (goes-quiet w.0 1 y w.1 w.2 d' m w.3 one) r.goes;
-              even = r.even; sync = r.sync;
+              even = r.even;
+              sync = r.sync;
             }
         by (Calls to z) h g' f rec = absurd g'
         by (Returns z) h g' f rec = absurd g'
@@ -289,7 +303,7 @@ module _ (base : Setting) (around_a around_b : Around) (def_a def_b : TextDef) (
         record {
           matched = match-alike base.placing shut_a shut_b apart base.active m s x y (λ n w. (suits.shut n (h.matched.free n w), not-apart n (h.matched.free n w))) k h.matched;
           arguments = arguments-alike base.placing apart m call.arguments x y k (omega (arith, floor, deep))
-            (λ n i. bool-not (apart n) (λ e. true≢false (sym (suits.untouched n e) ∙ h.allowed n i))) h.arguments;
+              (λ n i. bool-not (apart n) (λ e. true≢false (sym (suits.untouched n e) ∙ h.allowed n i))) h.arguments;
           in_stack = λ n i. h.in_stack n (back n i);
           allowed = λ n i. suits.banned n (h.allowed n (back n i));
           above = λ n e. let l = suits.above n e in omega (arith, l, stack, st);
@@ -306,21 +320,40 @@ module _ (base : Setting) (around_a around_b : Around) (def_a def_b : TextDef) (
         let l = r.leaves in let q = r.matched in
         record {
           matched = record {
-            count = q.count; statics = q.statics; fourfold = q.fourfold; cells = q.cells; lie = q.lie; disjoint = q.disjoint;
+            count = q.count;
+            statics = q.statics;
+            fourfold = q.fourfold;
+            cells = q.cells;
+            lie = q.lie;
+            disjoint = q.disjoint;
             free = λ n o. at.matched.free n (owner-before base.placing loose_b (entry_of m s call y) u t w v n l at.matched.count o);
-            output = q.output; input = q.input; base = q.base; aligned = q.aligned; top = q.top; floor = q.floor; not_deep = q.not_deep;
-            words = q.words; bytes = q.bytes; laid = q.laid; data_start = q.data_start;
+            output = q.output;
+            input = q.input;
+            base = q.base;
+            aligned = q.aligned;
+            top = q.top;
+            floor = q.floor;
+            not_deep = q.not_deep;
+            words = q.words;
+            bytes = q.bytes;
+            laid = q.laid;
+            data_start = q.data_start;
           };
           leaves = record {
-            addresses = l.addresses; hidden = l.hidden; objects = l.objects; result = l.result;
+            addresses = l.addresses;
+            hidden = l.hidden;
+            objects = l.objects;
+            result = l.result;
             stack = l.stack ∙ sym k.stack;
             sizes = record {
-              order = l.sizes.order ∙ sym k.memory.order; data_start = l.sizes.data_start ∙ sym k.memory.data_start;
-              low = l.sizes.low ∙ sym k.memory.low; stack = l.sizes.stack ∙ sym k.memory.stack;
+              order = l.sizes.order ∙ sym k.memory.order;
+              data_start = l.sizes.data_start ∙ sym k.memory.data_start;
+              low = l.sizes.low ∙ sym k.memory.low;
+              stack = l.sizes.stack ∙ sym k.memory.stack;
             };
             memory = λ n free where_ owner words.
-              l.memory n (suits.loose n free) (over n where_) owner (λ i. words (let st = k.stack in let p = i.0 in let z = i.1 in (omega (arith, p, st), omega (arith, z, st))))
-              ∙ sym (k.memory.bytes n (bool-not (apart n) (λ e. true≢false (sym (suits.loosened n e) ∙ free))));
+                l.memory n (suits.loose n free) (over n where_) owner (λ i. words (let st = k.stack in let p = i.0 in let z = i.1 in (omega (arith, p, st), omega (arith, z, st))))
+                ∙ sym (k.memory.bytes n (bool-not (apart n) (λ e. true≢false (sym (suits.loosened n e) ∙ free))));
           };
         }
       where
@@ -338,19 +371,23 @@ module _ (base : Setting) (around_a around_b : Around) (def_a def_b : TextDef) (
         let lv : (let z : State = linked_to to v.state in reg z.core 29 ≡ reg v.state.core 29) = other-register v.state.core.regs 31 to 29 (λ h. omega (arith, h)) in
         let mv = meet.stack in
         record {
-          registers = refl; high = refl; lower = refl;
+          registers = refl;
+          high = refl;
+          lower = refl;
           stack = r.leaves.stack ∙ (lv ∙ sym meet.stack);
           base = r.matched.base ∙ (sym at.matched.base ∙ other-register u.state.core.regs 31 to 30 (λ h. omega (arith, h)));
           memory = record { bytes = λ i e. refl; low = refl; stack = refl; order = refl; data_start = refl; input = refl; output = refl };
           words = (r.matched.words, r.matched.words);
           sizes = record {
-            order = r.leaves.sizes.order ∙ sym meet.memory.order; data_start = r.leaves.sizes.data_start ∙ sym meet.memory.data_start;
-            low = r.leaves.sizes.low ∙ sym meet.memory.low; stack = r.leaves.sizes.stack ∙ sym meet.memory.stack;
+            order = r.leaves.sizes.order ∙ sym meet.memory.order;
+            data_start = r.leaves.sizes.data_start ∙ sym meet.memory.data_start;
+            low = r.leaves.sizes.low ∙ sym meet.memory.low;
+            stack = r.leaves.sizes.stack ∙ sym meet.memory.stack;
           };
           variables = (refl, refl);
           kept = λ i e. r.leaves.memory i (suits.seen i e) (inr (let in_frame = (suits.inside i e).1 in omega (arith, in_frame, lv, mv, stack)))
-            (λ o. true≢false (sym (suits.hidden i e) ∙ at.matched.free i o))
-            (λ a. true≢false (sym (suits.untouched i e) ∙ at.allowed i (let p = a.0 in let q = a.1 in (omega (arith, p, lv, lu, mv), omega (arith, q, lv, lu, mv)))));
+              (λ o. true≢false (sym (suits.hidden i e) ∙ at.matched.free i o))
+              (λ a. true≢false (sym (suits.untouched i e) ∙ at.allowed i (let p = a.0 in let q = a.1 in (omega (arith, p, lv, lu, mv), omega (arith, q, lv, lu, mv)))));
           on = (refl, refl);
         }
 
@@ -362,12 +399,16 @@ module _ (base : Setting) (around_a around_b : Around) (def_a def_b : TextDef) (
         record {
           matched = match-alike base.placing base.outer_shut base.outer_shut apart base.outer_active n s x y (λ i w. (r.matched.free i w, away i (r.matched.lie i w))) k r.matched;
           leaves = record {
-            addresses = l.addresses; hidden = l.hidden; objects = l.objects;
+            addresses = l.addresses;
+            hidden = l.hidden;
+            objects = l.objects;
             result = subst (λ z. StandsValue base.placing n v z) k.result l.result;
             stack = sym k.stack ∙ l.stack;
             sizes = record {
-              order = sym k.memory.order ∙ l.sizes.order; data_start = sym k.memory.data_start ∙ l.sizes.data_start;
-              low = sym k.memory.low ∙ l.sizes.low; stack = sym k.memory.stack ∙ l.sizes.stack;
+              order = sym k.memory.order ∙ l.sizes.order;
+              data_start = sym k.memory.data_start ∙ l.sizes.data_start;
+              low = sym k.memory.low ∙ l.sizes.low;
+              stack = sym k.memory.stack ∙ l.sizes.stack;
             };
             memory = λ i free where_ owner words. sym (k.memory.bytes i (outside i where_)) ∙ l.memory i free where_ owner words;
           };
@@ -376,6 +417,7 @@ module _ (base : Setting) (around_a around_b : Around) (def_a def_b : TextDef) (
         outside : (i : ℕ) → (i < stack_start) ⊎ (reg base.entry.state.core 29 ≤ i) → apart i ≡ false
         outside i (inl z) = bool-not (apart i) (λ e. let q = (suits.inside i e).0 in omega (arith, z, q))
         outside i (inr z) = bool-not (apart i) (λ e. let q = (suits.inside i e).2 in omega (arith, z, q))
+
         away : (i : ℕ) → Lies x.core i → apart i ≡ false
         away i (inl z) = let z1 = z.1 in let u = r.matched.laid.above in outside i (inl (omega (arith, z1, u)))
         away i (inr z) = let z0 = z.0 in let st = r.leaves.stack in outside i (inr (omega (arith, z0, st)))
@@ -385,15 +427,19 @@ module _ (base : Setting) (around_a around_b : Around) (def_a def_b : TextDef) (
         let r = h.0 in let u = h.1 in
         let k = goes-kept r.steps x r.to d r.count y d' r.goes ev sy in
         let w = subst (λ t. FollowsBy apart side_b t (Follows apart side_a side_b 0) r.to k.to) h.2 (k.sync.follows 1) in
-        let holds : Holds w.2 = holds-step w.1 (Returns w.2) w.4 (quiet-holds w.0 k.to w.1 w.3 k.sync.holds) in
-        (record { steps = k.steps + w.0; to = w.1; count = k.count; goes = goes-goes k.steps w.0 y k.to w.1 d' k.count k.count k.goes (goes-on w.0 k.to w.1 k.count w.3) },
-        w.2, w.4, paid-even r.count k.count k.even h.3, h.4,
-        λ to word. (let ans = h.5 to word in
-          let count = ans.matched.words.count in
-          let raised_is = raised-count def_a (linked_to to u.state) in
-          done-alike h.4 s (after_return a to u) (after_return b to w.2) v ans
-          (raised-alike def_a def_b apart (linked_to to u.state) (linked_to to w.2.state) suits.same_keeps suits.same_frame (sym raised_is ∙ count)
-            (linked-alike apart u.state w.2.state to word (alike-of u w.2 w.5 holds.words)))))
+        let holds : Holds w.2 = holds-step w.1 (Returns w.2) w.4 (quiet-holds w.0 k.to w.1 w.3 k.sync.holds) in (
+          record { steps = k.steps + w.0; to = w.1; count = k.count; goes = goes-goes k.steps w.0 y k.to w.1 d' k.count k.count k.goes (goes-on w.0 k.to w.1 k.count w.3) },
+          w.2,
+          w.4,
+          paid-even r.count k.count k.even h.3,
+          h.4,
+          λ to word. (let ans = h.5 to word in
+              let count = ans.matched.words.count in
+              let raised_is = raised-count def_a (linked_to to u.state) in
+              done-alike h.4 s (after_return a to u) (after_return b to w.2) v ans
+              (raised-alike def_a def_b apart (linked_to to u.state) (linked_to to w.2.state) suits.same_keeps suits.same_frame (sym raised_is ∙ count)
+              (linked-alike apart u.state w.2.state to word (alike-of u w.2 w.5 holds.words)))),
+        )
     carry (Wrong why place s) m d d' x y h ev sy = tt
     carry (NoMeaning place s) m d d' x y h ev sy = tt
     carry (Exit text s) m d d' x y h ev sy = absurd (silent-a h.0.to (Exits h.1) h.2)
@@ -401,9 +447,12 @@ module _ (base : Setting) (around_a around_b : Around) (def_a def_b : TextDef) (
     carry (Turn s p) m d d' x y h ev sy =
         let r = h.0 in
         let k = goes-kept r.steps x r.to d r.count y d' r.goes ev sy in
-        let t = k.even.turns in let st = k.even.steps in let al = k.even.allowed in let bk = k.even.backs in
-        (record { steps = k.steps; to = k.to; count = k.count; goes = k.goes }, paid-even r.count k.count k.even h.1, (k.sync.out ∙ h.2.0, k.sync.left ∙ h.2.1),
-        carry p m (after_turn r.count) (after_turn k.count) r.to k.to h.3 (record { turns = omega (arith, t); steps = st; allowed = omega (arith, al); backs = bk }) k.sync)
+        let t = k.even.turns in let st = k.even.steps in let al = k.even.allowed in let bk = k.even.backs in (
+          record { steps = k.steps; to = k.to; count = k.count; goes = k.goes },
+          paid-even r.count k.count k.even h.1,
+          (k.sync.out ∙ h.2.0, k.sync.left ∙ h.2.1),
+          carry p m (after_turn r.count) (after_turn k.count) r.to k.to h.3 (record { turns = omega (arith, t); steps = st; allowed = omega (arith, al); backs = bk }) k.sync,
+        )
     carry (Moved n p) m d d' x y h ev sy =
         let al = ev.allowed in
         carry p m (after_copy n d) (after_copy n d') x y h (record { turns = ev.turns; steps = ev.steps; allowed = omega (arith, al); backs = ev.backs }) sy
@@ -412,26 +461,33 @@ module _ (base : Setting) (around_a around_b : Around) (def_a def_b : TextDef) (
         let to_call : ℕ = base.placing.function call.function in
         let k = goes-kept r.steps x r.to d r.count y d' r.goes ev sy in
         let w : (n : ℕ) → FollowsBy apart side_b (Calls to_call u) (Follows apart side_a side_b n) r.to k.to =
-          λ n. subst (λ t. FollowsBy apart side_b t (Follows apart side_a side_b n) r.to k.to) h.2 (k.sync.follows (suc n)) in
+        λ n. subst (λ t. FollowsBy apart side_b t (Follows apart side_a side_b n) r.to k.to) h.2 (k.sync.follows (suc n)) in
         let z = w 0 in
         let same : (n : ℕ) → (w n).2 ≡ z.2 = λ n. calls-same to_call to_call (w n).2 z.2 (sym (w n).4
-          ∙ (ap (steps_of side_b) (quiet-same side_b (w n).0 z.0 k.to (w n).1 z.1 (w n).3 (subst IsEvent (sym (w n).4) tt) z.3 (subst IsEvent (sym z.4) tt)) ∙ z.4)) in
+        ∙ (ap (steps_of side_b) (quiet-same side_b (w n).0 z.0 k.to (w n).1 z.1 (w n).3 (subst IsEvent (sym (w n).4) tt) z.3 (subst IsEvent (sym z.4) tt)) ∙ z.4)) in
         let holds : Holds z.2 = holds-step z.1 (Calls to_call z.2) z.4 (quiet-holds z.0 k.to z.1 z.3 k.sync.holds) in
         let meet : Meet apart u z.2 = z.5 in
         let stack : reg u.state.core 29 ≡ sp = stack-step r.to (Calls to_call u) h.2 ∙ k.sync.stack in
         let linked : (to : ℕ) → IsWord to → Alike apart (linked_to to u.state) (linked_to to z.2.state) = λ to word. linked-alike apart u.state z.2.state to word (alike-of u z.2 meet holds.words) in
-        let st = k.even.steps in
-        (record { steps = k.steps + z.0; to = z.1; count = k.count; goes = goes-goes k.steps z.0 y k.to z.1 d' k.count k.count k.goes (goes-on z.0 k.to z.1 k.count z.3) },
-        z.2, z.4, paid-even r.count k.count k.even h.3, h.4, h.5,
-        (λ to word. call-alike h.4 call s (linked_to to u.state) (linked_to to z.2.state) (h.6 to word) (linked to word) (other-register u.state.core.regs 31 to 29 (λ e. omega (arith, e)) ∙ stack)),
-        λ to word v t n c ans.
-          (let both : keeping.Answers apart u z.2 (record u { state = c }) (record z.2 { state = c }) = answers-of h.4 n call s t to u z.2 c v (h.6 to word) meet stack ans in
-          carry (q v t) n (after_call r.count) (after_call k.count) (record u { state = c }) (record z.2 { state = c })
-          (h.7 to word v t n c (answer-back h.4 n call s t (linked_to to u.state) (linked_to to z.2.state) c v (h.6 to word) (linked to word) ans))
-          (record { turns = k.even.turns; steps = omega (arith, st); allowed = k.even.allowed; backs = k.even.backs })
-          (record {
-            out = refl; left = refl; stack = both.stack ∙ stack;
-            holds = record { words = ans.matched.words; input = ans.matched.bytes; variables = holds.variables };
-            follows = λ i. subst (λ g. Follows apart side_a side_b i (record u { state = c }) (record g { state = c })) (same i)
-              ((w i).6 (record u { state = c }) (record (w i).2 { state = c }) (subst (λ g. keeping.Answers apart u g (record u { state = c }) (record g { state = c })) (sym (same i)) both));
-          })))
+        let st = k.even.steps in (
+          record { steps = k.steps + z.0; to = z.1; count = k.count; goes = goes-goes k.steps z.0 y k.to z.1 d' k.count k.count k.goes (goes-on z.0 k.to z.1 k.count z.3) },
+          z.2,
+          z.4,
+          paid-even r.count k.count k.even h.3,
+          h.4,
+          h.5,
+          (λ to word. call-alike h.4 call s (linked_to to u.state) (linked_to to z.2.state) (h.6 to word) (linked to word) (other-register u.state.core.regs 31 to 29 (λ e. omega (arith, e)) ∙ stack)),
+          λ to word v t n c ans.
+              (let both : keeping.Answers apart u z.2 (record u { state = c }) (record z.2 { state = c }) = answers-of h.4 n call s t to u z.2 c v (h.6 to word) meet stack ans in
+              carry (q v t) n (after_call r.count) (after_call k.count) (record u { state = c }) (record z.2 { state = c })
+              (h.7 to word v t n c (answer-back h.4 n call s t (linked_to to u.state) (linked_to to z.2.state) c v (h.6 to word) (linked to word) ans))
+              (record { turns = k.even.turns; steps = omega (arith, st); allowed = k.even.allowed; backs = k.even.backs })
+              (record {
+                out = refl;
+                left = refl;
+                stack = both.stack ∙ stack;
+                holds = record { words = ans.matched.words; input = ans.matched.bytes; variables = holds.variables };
+                follows = λ i. subst (λ g. Follows apart side_a side_b i (record u { state = c }) (record g { state = c })) (same i)
+                    ((w i).6 (record u { state = c }) (record (w i).2 { state = c }) (subst (λ g. keeping.Answers apart u g (record u { state = c }) (record g { state = c })) (sym (same i)) both));
+              })),
+        )

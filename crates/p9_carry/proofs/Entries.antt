@@ -1,17 +1,16 @@
 -- What an entry leaves: its R29, and a state in which the code of a call may begin.
-use Rattle.std.proofs.Common.{◌≡◌, ◌≢◌, ◌≤◌, ◌<◌, ◌⊎◌, inl, inr, ℕ, ◌+◌, ◌-◌, ◌%◌, ◌^◌, ◌==◌, ◌||◌, nat_lt, not, Bool, true, false, if◌then◌else◌, Option, Some, None, List, [], ◌∷◌, length, slice_index, refl, sym, ap, ◌∙◌, subst, arith}
+use Rattle.std.proofs.Common.{◌≡◌, ◌≤◌, ℕ, ◌+◌, ◌-◌, ◌%◌, ◌==◌, ◌||◌, nat_lt, not, Bool, true, false, if◌then◌else◌, List, length, slice_index, refl, sym, ap, ◌∙◌, subst, arith}
 use Rattle.std.proofs.lemmas.Bool.{true≢false, or_parts}
 use Rattle.std.proofs.lemmas.Bool.Decides.{nat_tests}
 use Rattle.std.proofs.lemmas.List.{get_or-set_same}
 use Rattle.p9_base.specs.Words.{IsWord}
-use Rattle.p9_base.specs.Core.{Core, text_start, stack_start, stack_end, low_end, reg, with_reg, with_word_in, with_word}
+use Rattle.p9_base.specs.Core.{Core, text_start, stack_start, reg, with_word_in, with_word}
 use Rattle.p9_base.specs.SystemCalls.{State}
 use Rattle.p9_base.specs.Holding.{HoldsWords, AreBytes}
 use Rattle.p9_base.proofs.Holding.{with_register-words, memory-words-by, word-bytes, register-word}
 use Rattle.p9_base.proofs.Kept.{length-word}
 use Rattle.p9_abs.specs.declared.instructions.TextDef.{TextDef}
 use Rattle.p9_abs.specs.Validity.{IsFrame}
-use Rattle.p9_abs.specs.Steps.{Mach}
 use Rattle.p9_abs.specs.Runs.{keeps, taken_by, lowered}
 use Rattle.p9_abs.specs.Keeping.{IsEntry}
 use Rattle.p9_cmean.specs.Cells as c
@@ -84,7 +83,7 @@ entered-by true frame x words laid =
       words = stored-words low sp (reg x.core 31) low_words;
       left = refl;
       laid = laid-by (record x { core = low }) (record x { core = with_word low sp (reg x.core 31) }) (stored-sizes low sp (reg x.core 31))
-        (record { text = laid.text; gap = laid.gap; data_and_bss = laid.data_and_bss; above = laid.above; stack_size = laid.stack_size });
+          (record { text = laid.text; gap = laid.gap; data_and_bss = laid.data_and_bss; above = laid.above; stack_size = laid.stack_size });
     }
 
 pub entry-stack : (def : TextDef) (x : State) → HoldsWords x.core → IsLaidOut x → (let y : State = after_entry def x in reg y.core 29 ≡ lowered_stack def x)

@@ -1,5 +1,5 @@
 -- Framed code.
-use Rattle.std.proofs.Common.{◌≡◌, ◌≢◌, ◌≤◌, ◌<◌, ◌⊎◌, inl, inr, ℕ, zero, suc, ◌+◌, ◌-◌, ◌%◌, ◌^◌, ◌*◌, ◌==◌, ◌&&◌, ◌||◌, nat_le, nat_lt, not, Bool, true, false, if◌then◌else◌, Option, Some, None, List, [], ◌∷◌, length, map, slice_get, slice_index, All, refl, sym, ap, ◌∙◌, subst, arith}
+use Rattle.std.proofs.Common.{◌≡◌, ◌≤◌, ◌<◌, ◌⊎◌, inl, inr, ℕ, suc, ◌+◌, ◌-◌, ◌^◌, ◌*◌, ◌==◌, ◌&&◌, ◌||◌, nat_le, nat_lt, not, Bool, true, false, if◌then◌else◌, Option, Some, List, [], ◌∷◌, length, map, slice_get, All, refl, sym, ap, ◌∙◌, subst, arith}
 use Rattle.std.specs.List.{list_any}
 use Rattle.std.proofs.lemmas.Bool.{true≢false, and_parts, or_parts, leb-true}
 use Rattle.std.proofs.lemmas.Bool.Decides.{nat_tests}
@@ -13,25 +13,24 @@ use Rattle.p9_abs.specs.declared.instructions.AFunction.{AFunction}
 use Rattle.p9_abs.specs.declared.instructions.TextDef.{TextDef}
 use Rattle.p9_abs.specs.declared.regions.Region.{Region}
 use Rattle.p9_abs.specs.Forms.{IsForm}
-use Rattle.p9_abs.specs.Automatics.{IsCode, IsInstructionOf, is_variable, reached}
-use Rattle.p9_abs.specs.Steps.{Mach, Around}
+use Rattle.p9_abs.specs.Automatics.{IsCode, IsInstructionOf, is_variable}
+use Rattle.p9_abs.specs.Steps.{Mach}
 use Rattle.p9_abs.specs.Runs.{keeps, taken_by, keeps_return, in_word, lowered}
-use Rattle.p9_abs.specs.OneCall.{Layout, IsLayout, ArePlaced, AreDisjoint, in_gap, in_words, in_automatic, banned_in, around_call, size_at}
+use Rattle.p9_abs.specs.OneCall.{Layout, IsLayout, AreDisjoint, in_gap, in_words, in_automatic, banned_in, around_call, size_at}
 use Rattle.p9_abs.specs.Framed.{Plan, IsFramed}
-use Rattle.p9_abs.specs.Keeping.{IsEntry, HasVariables, HoldsVariables, nowhere, Follows, side_of, framed_side, around_framed, layout_of, memory_offsets, in_variable, content, KeepsFramed}
-use Rattle.p9_abs.specs.Laws.{Holds}
+use Rattle.p9_abs.specs.Keeping.{IsEntry, HasVariables, HoldsVariables, nowhere, Follows, side_of, framed_side, around_framed, layout_of, in_variable, content, KeepsFramed}
 use Rattle.p9_cmean.specs.Cells as c
 use Rattle.p9_cmean.specs.Cells.{Value}
 use Rattle.p9_cmean.specs.Plays.{Call, Play}
 use Rattle.p9_cmean.specs.Turns.{room}
 use Rattle.p9_sim.specs.Memory.{Map, Ground}
-use Rattle.p9_sim.specs.Matching.{Match, AtCall, Entry, entry_of}
+use Rattle.p9_sim.specs.Matching.{AtCall, entry_of}
 use Rattle.p9_sim.specs.Playing.{Branches, first_count, Setting, Performs}
 use Rattle.p9_sim.specs.Functions.{lowered_stack, after_entry, kept_with, setting_of, framed_as, is_no_automatic, setting_over}
 use Rattle.p9_carry.specs.Carrying.{HasNoSystemCall, CarriesFramed}
 use Rattle.p9_carry.proofs.Alike.{bool-not}
-use Rattle.p9_carry.proofs.Entries.{entry-stack, entry-words, entry-left, entry-is}
-use Rattle.p9_carry.proofs.Carrying.{Suits, Sync, EvenCount, carry}
+use Rattle.p9_carry.proofs.Entries.{entry-stack, entry-words, entry-is}
+use Rattle.p9_carry.proofs.Carrying.{Suits, Sync, carry}
 use Rattle.p9_carry.proofs.Over.{at-each}
 use Rattle.p9_carry.proofs.Rows.{is_call, framed-calls}
 use Rattle.p9_carry.proofs.Places.{in-memory, mapped, AtVariable, variable-at, AtAutomatic, automatic-at, AtWord, word-at, layout-is, contents, contents-length, contents-hold, contents-words, contents-low}
@@ -205,15 +204,15 @@ module _ (f : AFunction) (rs : List Region) (homes : List (Option ℕ)) (def : T
     above = λ n e. above n e;
     loose = λ n e. refl;
     hidden = λ n e. (let i = apart-is n e in
-      ap (λ b. kept_with others (framed_as f l) sp n || b) (λ t. in-frame n i t && not (not-automatic n i t)) ∙ or-right (kept_with others (framed_as f l) sp n));
+        ap (λ b. kept_with others (framed_as f l) sp n || b) (λ t. in-frame n i t && not (not-automatic n i t)) ∙ or-right (kept_with others (framed_as f l) sp n));
     untouched = λ n e. (let i = apart-is n e in
-      (λ t. others n || (keeps-it n i t && (in_word n (Some sp) || gap n i t))) ∙ (ap (λ b. others n || b) (or-right (in_word n (Some sp))) ∙ or-right (others n)));
+        (λ t. others n || (keeps-it n i t && (in_word n (Some sp) || gap n i t))) ∙ (ap (λ b. others n || b) (or-right (in_word n (Some sp))) ∙ or-right (others n)));
     loosened = λ n e. gap n (apart-is n e);
     seen = λ n e. refl;
     inside = λ n e. (let i = apart-is n e in let high = i.high in let into = i.inside in
-      let entry = begun [] in let low = entry.low in
-      let top : sp + 4 + def.frame ≡ reg x.core 29 = top-is (keeps-it n i) in
-      (omega (arith, low, stack_is, high), high, omega (arith, into, top)));
+        let entry = begun [] in let low = entry.low in
+        let top : sp + 4 + def.frame ≡ reg x.core 29 = top-is (keeps-it n i) in
+        (omega (arith, low, stack_is, high), high, omega (arith, into, top)));
     same_keeps = same_keeps;
     same_frame = refl;
     silent_a = no_f;
@@ -223,12 +222,14 @@ module _ (f : AFunction) (rs : List Region) (homes : List (Option ℕ)) (def : T
     where
       kept-same : (n : ℕ) → kept_with others def sp n ≡ kept_with others (framed_as f l) sp n
       kept-same n = ap (λ b. others n || (b && in_word n (Some sp))) (sym same_keeps)
+
       not-banned : (n : ℕ) → banned_in f l sp others n ≡ false → kept_with others def sp n ≡ false
       not-banned n e = kept-same n ∙ by (keeps_return def.frame f.code) ((or_parts (others n) _ e).0) ((or_parts (others n) _ e).1)
         where
           by : (b : Bool) → others n ≡ false → (b && (in_word n (Some sp) || in_gap f l sp n)) ≡ false → (others n || (b && in_word n (Some sp))) ≡ false
           by true o h = λ t. o t || (or_parts (in_word n (Some sp)) (in_gap f l sp n) h).0 t
           by false o h = λ t. o t || false
+
       above : (n : ℕ) → kept_with others def sp n ≡ true → sp ≤ n
       above n e = by (others n) refl (keeps def) e
         where
@@ -236,6 +237,7 @@ module _ (f : AFunction) (rs : List Region) (homes : List (Option ℕ)) (def : T
           by true o b h = let q = at.above n o in omega (arith, q, below)
           by false o true h = leb-true sp n ((and_parts (nat_le sp n) _ h).0)
           by false o false h = absurd (true≢false (sym h))
+
       top-is : keeps_return def.frame f.code ≡ true → sp + 4 + def.frame ≡ reg x.core 29
       top-is k =
           let e : sp ≡ reg x.core 29 - (def.frame + 4) = ap (λ b. reg x.core 29 - (if b then def.frame + 4 else 0)) k in
@@ -255,7 +257,7 @@ module _ (f : AFunction) (rs : List Region) (homes : List (Option ℕ)) (def : T
     stack = stack_is;
     holds = record { words = words; input = (let e = begun [] in e.input); variables = All-nil IsWord };
     follows = λ n. subst (λ k. Follows (λ b. nat_le k b && in_variable f 0 p.offsets (b - k)) (side_of symbol f l k others) (framed_side symbol def k others) n start_a start_b) stack_is
-      (keeps_steps symbol others n start_a start_b (begun vars) (record { count = variables.count; low = variables.low }) refl refl holds_variables);
+        (keeps_steps symbol others n start_a start_b (begun vars) (record { count = variables.count; low = variables.low }) refl refl holds_variables);
   }
     where
       holds_variables : HoldsVariables f p.offsets start_a start_b
@@ -270,22 +272,25 @@ module _ (f : AFunction) (rs : List Region) (homes : List (Option ℕ)) (def : T
   framed-performs q keeps_steps done =
       subst (λ n. Performs (framed_at n) q m first_count start_b) stacks
       (carry base (around_call symbol f l sp others) (around_framed symbol def sp others) (framed_as f l) def base.loose nowhere base.shut shut_b apart sp suits
-        q m first_count first_count start_a start_b (subst (λ y. Performs base q m first_count (record { state = y; vars = vars; at = 0 })) states done)
-        (record { turns = refl; steps = refl; allowed = refl; backs = omega arith }) (sync keeps_steps))
+      q m first_count first_count start_a start_b (subst (λ y. Performs base q m first_count (record { state = y; vars = vars; at = 0 })) states done)
+      (record { turns = refl; steps = refl; allowed = refl; backs = omega arith }) (sync keeps_steps))
 
 pub carries_framed : CarriesFramed
 carries_framed f rs homes def code no_f no_def settled g symbol need body name room_is ok others active turns call s m x is fits at =
     let p = settled.0 in
     let l : Layout = layout_of f def.frame p.offsets in
-    let framed = settled.1 in
-    (stack-found, framed-performs f rs homes def p code no_f no_def framed g symbol need others active call s m x room_is fits at (body turns call s) settled.2
-    (ok l (vars f rs homes def p code no_f no_def framed g symbol need others active call s m x room_is fits at) others active turns call s m x
-    (layout-is f def.frame p.offsets framed.frame framed.placed) room_is
-    (variables f rs homes def p code no_f no_def framed g symbol need others active call s m x room_is fits at)
-    (contents-words f (core f rs homes def p code no_f no_def framed g symbol need others active call s m x room_is fits at) (lowered_stack (framed_as f l) x) (words f rs homes def p code no_f no_def framed g symbol need others active call s m x room_is fits at) 0 p.offsets) is fits at))
+    let framed = settled.1 in (
+      stack-found,
+      framed-performs f rs homes def p code no_f no_def framed g symbol need others active call s m x room_is fits at (body turns call s) settled.2
+          (ok l (vars f rs homes def p code no_f no_def framed g symbol need others active call s m x room_is fits at) others active turns call s m x
+          (layout-is f def.frame p.offsets framed.frame framed.placed) room_is
+          (variables f rs homes def p code no_f no_def framed g symbol need others active call s m x room_is fits at)
+          (contents-words f (core f rs homes def p code no_f no_def framed g symbol need others active call s m x room_is fits at) (lowered_stack (framed_as f l) x) (words f rs homes def p code no_f no_def framed g symbol need others active call s m x room_is fits at) 0 p.offsets) is fits at),
+    )
   where
     taken-small : (b : Bool) → (if b then def.frame + 4 else 0) ≤ def.frame + 4
     taken-small true = omega arith
     taken-small false = omega arith
+
     stack-found : stack_start + taken_by def ≤ reg x.core 29
     stack-found = let floor = at.matched.floor in let small = taken-small (keeps def) in omega (arith, floor, fits, room_is, small)

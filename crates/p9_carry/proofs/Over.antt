@@ -1,31 +1,28 @@
 -- Code over the same automatics.
-use Rattle.std.proofs.Common.{◌≡◌, ◌≢◌, ◌≤◌, ◌<◌, ◌⊎◌, inl, inr, ℕ, zero, suc, ◌+◌, ◌-◌, ◌%◌, ◌^◌, ◌*◌, ◌&&◌, ◌||◌, nat_le, nat_lt, not, Bool, true, false, if◌then◌else◌, Option, Some, None, List, [], ◌∷◌, length, slice_get, slice_index, All, refl, sym, ap, ◌∙◌, subst, arith}
+use Rattle.std.proofs.Common.{◌≡◌, ◌≤◌, ◌<◌, ◌⊎◌, inl, inr, ℕ, zero, suc, ◌+◌, ◌-◌, ◌^◌, ◌*◌, ◌&&◌, ◌||◌, nat_le, nat_lt, not, Bool, true, false, if◌then◌else◌, Some, None, List, [], ◌∷◌, length, slice_get, slice_index, All, refl, sym, ap, ◌∙◌, subst, arith}
 use Rattle.std.proofs.lemmas.Bool.{true≢false, and_parts, leb-true}
 use Rattle.std.proofs.lemmas.List.Elements.{All-head, All-tail}
 use Rattle.p9_base.specs.Words.{IsWord}
-use Rattle.p9_base.specs.Core.{stack_start, reg, with_word}
+use Rattle.p9_base.specs.Core.{reg, with_word}
 use Rattle.p9_base.specs.SystemCalls.{State}
 use Rattle.p9_abs.specs.declared.instructions.Abs.{Abs}
 use Rattle.p9_abs.specs.declared.instructions.AFunction.{AFunction}
-use Rattle.p9_abs.specs.declared.instructions.TextDef.{TextDef}
-use Rattle.p9_abs.specs.Validity.{writes_last, IsWritable}
-use Rattle.p9_abs.specs.Automatics.{IsCode, IsInstructionOf, is_variable}
-use Rattle.p9_abs.specs.Steps.{Mach, Around}
-use Rattle.p9_abs.specs.Runs.{keeps, taken_by, keeps_return, in_word, lowered}
-use Rattle.p9_abs.specs.OneCall.{Layout, IsLayout, in_gap, in_words, in_automatic, banned_in, around_call, size_at}
+use Rattle.p9_abs.specs.Automatics.{IsCode, IsInstructionOf}
+use Rattle.p9_abs.specs.Steps.{Mach}
+use Rattle.p9_abs.specs.Runs.{taken_by, keeps_return, in_word, lowered}
+use Rattle.p9_abs.specs.OneCall.{Layout, IsLayout, in_gap, in_words, in_automatic, banned_in, around_call}
 use Rattle.p9_abs.specs.Keeping.{IsEntry, HasVariables, nowhere, Follows, side_of, KeepsOver}
-use Rattle.p9_abs.specs.Laws.{Holds}
 use Rattle.p9_cmean.specs.Cells as c
 use Rattle.p9_cmean.specs.Cells.{Value}
 use Rattle.p9_cmean.specs.Plays.{Call, Play}
 use Rattle.p9_cmean.specs.Turns.{room}
 use Rattle.p9_sim.specs.Memory.{Map, Ground}
-use Rattle.p9_sim.specs.Matching.{Match, AtCall, Entry, entry_of}
+use Rattle.p9_sim.specs.Matching.{AtCall, entry_of}
 use Rattle.p9_sim.specs.Playing.{Branches, first_count, Setting, Performs}
 use Rattle.p9_sim.specs.Functions.{lowered_stack, after_entry, kept_with, framed_as, is_no_automatic, setting_over}
 use Rattle.p9_carry.specs.Carrying.{HasNoSystemCall, HasSameLayouts, CarriesOver}
-use Rattle.p9_carry.proofs.Entries.{entry-stack, entry-words, entry-left, entry-is}
-use Rattle.p9_carry.proofs.Carrying.{Suits, Sync, EvenCount, carry}
+use Rattle.p9_carry.proofs.Entries.{entry-stack, entry-is}
+use Rattle.p9_carry.proofs.Carrying.{Suits, Sync, carry}
 
 -- an instruction of a list with what holds of all
 pub at-each : (P : Abs → Type 0) (code : List Abs) (i : ℕ) (a : Abs) → All P code → slice_get code i ≡ Some a → P a
@@ -53,6 +50,7 @@ banned-above f l sp others n high e = by (either (others n) _ e)
         let inner = (and_parts (nat_le (sp + 4) n && nat_lt n (sp + 4 + l.frame)) _ w).0 in
         let low = leb-true (sp + 4) n ((and_parts (nat_le (sp + 4) n) _ inner).0) in
         omega (arith, low)
+
     by : (others n ≡ true) ⊎ ((keeps_return l.frame f.code && (in_word n (Some sp) || in_gap f l sp n)) ≡ true) → sp ≤ n
     by (inl o) = high o
     by (inr k) = in_frame (either (in_word n (Some sp)) (in_gap f l sp n) ((and_parts (keeps_return l.frame f.code) _ k).1))
@@ -110,7 +108,7 @@ module _ (f h : AFunction) (code : IsCode f) (same : HasSameLayouts f h) (no_f :
 
   bans : (n : ℕ) → banned_in f l sp others n ≡ banned_in h l sp others n
   bans n = ap (λ b. others n || (b && (in_word n (Some sp) || in_gap f l sp n))) same_keeps
-    ∙ ap (λ b. others n || (keeps_return l.frame h.code && (in_word n (Some sp) || b))) (sym (gaps n))
+      ∙ ap (λ b. others n || (keeps_return l.frame h.code && (in_word n (Some sp) || b))) (sym (gaps n))
 
   below : sp ≤ reg x.core 29
   below = omega arith
@@ -147,7 +145,7 @@ module _ (f h : AFunction) (code : IsCode f) (same : HasSameLayouts f h) (no_f :
     stack = stack_is;
     holds = record { words = begun.words; input = begun.input; variables = words };
     follows = λ n. subst (λ k. Follows nowhere (side_of symbol f l k others) (side_of symbol h l k others) n start start) stack_is
-      (keeps_steps symbol others n start begun (record { count = variables_f.count; low = variables_f.low }));
+        (keeps_steps symbol others n start begun (record { count = variables_f.count; low = variables_f.low }));
   }
 
   over-performs : (p : Play Value) → KeepsOver f h l → Performs base p m first_count start
@@ -156,7 +154,7 @@ module _ (f h : AFunction) (code : IsCode f) (same : HasSameLayouts f h) (no_f :
       subst (λ n. Performs (over n) p m first_count (record { state = after_entry (framed_as h l) x; vars = vars; at = 0 })) stacks
       (subst (λ y. Performs (over sp) p m first_count (record { state = y; vars = vars; at = 0 })) states
       (carry base (around_call symbol f l sp others) (around_call symbol h l sp others) (framed_as f l) (framed_as h l) base.loose (in_gap h l sp) base.shut shut_h nowhere sp suits
-        p m first_count first_count start start done (record { turns = refl; steps = refl; allowed = refl; backs = omega arith }) (sync keeps_steps)))
+      p m first_count first_count start start done (record { turns = refl; steps = refl; allowed = refl; backs = omega arith }) (sync keeps_steps)))
 
 pub carries_over : CarriesOver
 carries_over f h code same no_f no_h keeps_steps g symbol need body name ok l vars others active turns call s m x layout room_is variables words is fits at =

@@ -1,5 +1,5 @@
 -- Where the automatics of framed code are: those in memory, the variables, and the words in use.
-use Rattle.std.proofs.Common.{◌≡◌, ◌≢◌, ◌≤◌, ◌<◌, ◌⊎◌, inl, inr, ℕ, zero, suc, ◌+◌, ◌-◌, ◌*◌, ◌^◌, ◌==◌, ◌&&◌, ◌||◌, nat_le, nat_lt, Bool, true, false, not, if◌then◌else◌, Option, Some, None, List, [], ◌∷◌, length, map, All, slice_get, slice_index, refl, sym, ap, ◌∙◌, subst, arith}
+use Rattle.std.proofs.Common.{◌≡◌, ◌≤◌, ◌<◌, ◌⊎◌, inl, inr, ℕ, zero, suc, ◌+◌, ◌*◌, ◌^◌, ◌==◌, ◌&&◌, ◌||◌, nat_le, nat_lt, Bool, true, false, if◌then◌else◌, Option, Some, None, List, [], ◌∷◌, length, map, All, slice_get, slice_index, refl, sym, ap, ◌∙◌, subst, arith}
 use Rattle.std.specs.Prelude.{unwrap_or}
 use Rattle.std.proofs.lemmas.Bool.{true≢false, and_parts, leb-true}
 use Rattle.std.proofs.lemmas.Bool.Decides.{nat_tests}
@@ -16,8 +16,8 @@ use Rattle.p9_abs.specs.declared.forms.Location.TheVariants.{Static, Argument, F
 use Rattle.p9_abs.specs.declared.forms.Form.{Form}
 use Rattle.p9_abs.specs.declared.forms.Form.TheVariants as forms
 use Rattle.p9_abs.specs.Validity.{IsFrame}
-use Rattle.p9_abs.specs.Automatics.{form_at, holds_of, call_at, calls_in, reached, is_variable}
-use Rattle.p9_abs.specs.OneCall.{Layout, IsLayout, ArePlaced, AreDisjoint, UsesWord, names_word, is_stack_word, size_at, in_automatic, in_word_at, in_stack_word, in_word_of, in_words_below, in_words}
+use Rattle.p9_abs.specs.Automatics.{form_at, holds_of, calls_in, reached, is_variable}
+use Rattle.p9_abs.specs.OneCall.{IsLayout, ArePlaced, UsesWord, names_word, is_stack_word, size_at, in_automatic, in_word_at, in_stack_word, in_word_of, in_words_below}
 use Rattle.p9_abs.specs.Keeping.{layout_of, memory_offsets, offset_or_none, in_variable, content}
 
 -- a test by parts
@@ -172,6 +172,7 @@ word-at code b (suc m) e = by (word-at code b m) (either (reached code m && hold
     formed : (o : Option Form) → form_at code m ≡ o → reached code m ≡ true → holds_of (in_word_of b) o ≡ true → AtWord code b
     formed None f r h = absurd (true≢false (sym h))
     formed (Some form) f r h = word-of-form code m b r form f h
+
     by : (in_words_below code b m ≡ true → AtWord code b) → ((reached code m && holds_of (in_word_of b) (form_at code m)) ≡ true) ⊎ (in_words_below code b m ≡ true) → AtWord code b
     by later (inl h) = let a = and_parts (reached code m) (holds_of (in_word_of b) (form_at code m)) h in formed (form_at code m) refl a.0 a.1
     by later (inr h) = later h
@@ -189,13 +190,16 @@ layout-is f frame ps frame_is placed = record {
     words = placed.words;
     apart = λ i o v p r u e. placed.apart i o v p r u (up v p e);
   };
-  variables = λ v l. ((λ e. let n : 0 + v ≡ v = omega arith in ap (is_variable f) (sym n) ∙ outside f 0 ps v e),
-    (λ e. let n : 0 + v ≡ v = omega arith in variable-outside f 0 ps v (let c = placed.count in let m = map-length ps in omega (arith, l, c, m)) (ap (is_variable f) n ∙ e)));
+  variables = λ v l. (
+    (λ e. let n : 0 + v ≡ v = omega arith in ap (is_variable f) (sym n) ∙ outside f 0 ps v e),
+    (λ e. let n : 0 + v ≡ v = omega arith in variable-outside f 0 ps v (let c = placed.count in let m = map-length ps in omega (arith, l, c, m)) (ap (is_variable f) n ∙ e)),
+  );
 }
   where
     map-length : (ps : List ℕ) → length (map Some ps) ≡ length ps
     map-length [] = refl
     map-length (p ∷ ps) = ap suc (map-length ps)
+
     up : (v p : ℕ) → slice_get (memory_offsets f 0 ps) v ≡ Some (Some p) → slice_get (map Some ps) v ≡ Some (Some p)
     up v p e = mapped f ps v p (in-memory f 0 ps v p e).0
 

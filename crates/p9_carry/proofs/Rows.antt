@@ -1,6 +1,6 @@
 -- Only the rows of JAL are calls; a framed JAL is a JAL.
-use Rattle.std.proofs.Common.{◌≡◌, ◌<◌, ℕ, zero, suc, ◌+◌, ◌==◌, ◌||◌, nat_lt, Bool, true, false, if◌then◌else◌, Option, Some, None, List, [], ◌∷◌, ◌++◌, map, All, refl, sym, ap, ◌∙◌, subst}
-use Rattle.std.specs.Prelude.{is_some, IsSome, slice_index}
+use Rattle.std.proofs.Common.{◌≡◌, ℕ, ◌+◌, ◌==◌, ◌||◌, nat_lt, Bool, true, false, if◌then◌else◌, Option, Some, None, List, [], ◌∷◌, ◌++◌, map, All, refl, sym, ap, ◌∙◌}
+use Rattle.std.specs.Prelude.{IsSome, slice_index}
 use Rattle.std.specs.List.{list_any}
 use Rattle.std.proofs.lemmas.Bool.{true≢false}
 use Rattle.std.proofs.lemmas.List.Elements.{All-head, All-tail}
@@ -12,7 +12,7 @@ use Rattle.p9_abs.specs.declared.instructions.Operand.TheVariants.{Reg, Const, A
 use Rattle.p9_abs.specs.declared.instructions.Abs.{Abs}
 use Rattle.p9_abs.specs.declared.instructions.AFunction.{AFunction}
 use Rattle.p9_abs.specs.declared.forms.OperandKind.{OperandKind}
-use Rattle.p9_abs.specs.declared.forms.OperandKind.TheVariants.{Register, Constant, Address, Memory, HiLo, Target, Function}
+use Rattle.p9_abs.specs.declared.forms.OperandKind.TheVariants.{Register, Constant, Address, Memory, HiLo, Target}
 use Rattle.p9_abs.specs.declared.forms.Width.{Width}
 use Rattle.p9_abs.specs.declared.forms.Calculation.{Calculation}
 use Rattle.p9_abs.specs.declared.forms.Product.{Product}
@@ -21,10 +21,10 @@ use Rattle.p9_abs.specs.declared.forms.SignTest.{SignTest}
 use Rattle.p9_abs.specs.declared.forms.Form.{Form}
 use Rattle.p9_abs.specs.declared.forms.Form.TheVariants as forms
 use Rattle.p9_abs.specs.declared.regions.Region.{Region}
-use Rattle.p9_abs.specs.Forms.{IsForm, operand_kind, word_move, signed_move, unsigned_move, arithmetic, shift, multiply, pair_branch, sign_branch, jump, call, bare, kinds_form, form_of, decoded}
+use Rattle.p9_abs.specs.Forms.{IsForm, operand_kind, word_move, signed_move, unsigned_move, arithmetic, shift, multiply, pair_branch, sign_branch, jump, bare, kinds_form, form_of, decoded}
 use Rattle.p9_abs.specs.Automatics.{holds_of, calls_in}
 use Rattle.p9_abs.specs.OneCall.{size_at}
-use Rattle.p9_abs.specs.Framed.{Shift, Plan, instruction, move_of_size, shift_operands, shift_code, shifts_code, home_or_memory, framed_operand, blocks}
+use Rattle.p9_abs.specs.Framed.{Shift, Plan, instruction, shift_operands, shift_code, shifts_code, framed_operand, blocks}
 
 abbrev pub is_call : Abs → Bool
 is_call a = holds_of calls_in (decoded a)
@@ -201,9 +201,9 @@ blocks-calls f rs homes p taken i [] h = refl
 blocks-calls f rs homes p taken i (a ∷ rest) h =
     list_any-append is_call (shifts_code f p (p.before i)) _
     ∙ (ap (λ b. b || list_any is_call (instruction a.op (map (framed_operand rs homes p taken i) a.operands) ∷ (shifts_code f p (p.after i) ++ blocks f rs homes p taken (i + 1) rest)))
-        (shifts-quiet f p (p.before i))
+    (shifts-quiet f p (p.before i))
     ∙ (ap (λ b. holds_of calls_in (form_of a.op (map (framed_operand rs homes p taken i) a.operands)) || b)
-        (list_any-append is_call (shifts_code f p (p.after i)) _ ∙ ap (λ b. b || list_any is_call (blocks f rs homes p taken (i + 1) rest)) (shifts-quiet f p (p.after i)))
+    (list_any-append is_call (shifts_code f p (p.after i)) _ ∙ ap (λ b. b || list_any is_call (blocks f rs homes p taken (i + 1) rest)) (shifts-quiet f p (p.after i)))
     ∙ (λ t. call-same rs homes p taken i a.op a.operands (All-head IsForm a rest h) t || blocks-calls f rs homes p taken (i + 1) rest (All-tail IsForm a rest h) t)))
 
 pub framed-calls : (f : AFunction) (rs : List Region) (homes : List (Option ℕ)) (p : Plan) (taken : ℕ) (code : List Abs) → All IsForm f.code

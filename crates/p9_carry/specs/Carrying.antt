@@ -1,19 +1,18 @@
 -- The law of carrying: code that keeps another's steps may stand for it.
-use Rattle.std.specs.Prelude.{◌≡◌, ◌≢◌, ◌≤◌, ◌↔◌, ℕ, ◌+◌, Option, Some, None, List, length, slice_get}
+use Rattle.std.specs.Prelude.{◌≡◌, ◌≢◌, ◌≤◌, ℕ, ◌+◌, Option, Some, List}
 use Rattle.p9_abs.specs.declared.instructions.Abs.{Abs}
 use Rattle.p9_abs.specs.declared.instructions.AFunction.{AFunction}
 use Rattle.p9_abs.specs.declared.instructions.TextDef.{TextDef}
 use Rattle.p9_abs.specs.declared.regions.Region.{Region}
-use Rattle.p9_abs.specs.declared.forms.Form.{Form}
 use Rattle.p9_abs.specs.declared.forms.Form.TheVariants as forms
 use Rattle.p9_abs.specs.Automatics.{IsCode, form_at, is_variable}
-use Rattle.p9_abs.specs.Runs.{keeps, keeps_return}
+use Rattle.p9_abs.specs.Runs.{keeps_return}
 use Rattle.p9_abs.specs.OneCall.{Layout, IsLayout, in_words}
 use Rattle.p9_abs.specs.Keeping.{KeepsOver, IsSettled}
 use Rattle.p9_cmean.specs.Cells.{FunctionName}
 use Rattle.p9_sim.specs.Memory.{Ground}
 use Rattle.p9_sim.specs.Playing.{Branches}
-use Rattle.p9_sim.specs.Functions.{Body, FnOk, FnOkOver, framed_as}
+use Rattle.p9_sim.specs.Functions.{Body, FnOk, FnOkOver}
 
 -- there is no SYSCALL in the code
 abbrev pub HasNoSystemCall : List Abs → Type 0
