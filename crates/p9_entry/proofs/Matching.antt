@@ -1,28 +1,23 @@
 -- The match behind an entry.
-use Rattle.std.proofs.Common.{◌≡◌, ◌≢◌, ◌≤◌, ◌<◌, ◌⊎◌, inl, inr, ℕ, zero, suc, ◌+◌, ◌-◌, ◌/◌, ◌%◌, ◌^◌, ◌==◌, ◌&&◌, ◌||◌, nat_le, nat_lt, not, Bool, true, false, if◌then◌else◌, Option, Some, None, List, [], ◌∷◌, length, slice_index, slice_set, refl, sym, ap, ◌∙◌, subst, arith}
-use Rattle.std.proofs.lemmas.Bool.{true≢false, and_parts, or_parts, leb-true}
+use Rattle.std.proofs.Common.{◌≡◌, ◌≤◌, ◌<◌, ◌⊎◌, inl, inr, ℕ, suc, ◌+◌, ◌-◌, ◌%◌, ◌&&◌, ◌||◌, nat_le, nat_lt, Bool, true, false, if◌then◌else◌, Some, List, [], ◌∷◌, length, slice_index, refl, sym, ap, ◌∙◌, subst, arith}
 use Rattle.std.proofs.lemmas.Bool.Decides.{nat_tests}
 use Rattle.std.proofs.lemmas.List.{get_or-set_same, get_or-set_other}
 use Rattle.p9_base.specs.declared.order.ByteOrder.{ByteOrder}
 use Rattle.p9_base.specs.declared.order.ByteOrder.TheVariants.{Big, Little}
 use Rattle.p9_base.specs.Words.{IsWord}
-use Rattle.p9_base.specs.Core.{Core, text_start, stack_start, stack_end, low_end, reg, with_reg, with_four, with_word_in, with_word, read_byte}
+use Rattle.p9_base.specs.Core.{Core, text_start, stack_start, reg, with_four, with_word_in, with_word, read_byte}
 use Rattle.p9_base.specs.SystemCalls.{State}
 use Rattle.p9_base.specs.Holding.{HoldsWords, AreBytes}
 use Rattle.p9_base.proofs.Holding.{with_register-words, memory-words-by, word-bytes, register-word}
 use Rattle.p9_base.proofs.Kept.{length-word}
-use Rattle.p9_abs.specs.declared.instructions.TextDef.{TextDef}
 use Rattle.p9_abs.specs.Runs.{keeps, taken_by, in_word, lowered}
 use Rattle.p9_abs.specs.Keeping.{SameSizes}
 use Rattle.p9_abs.proofs.Fixed.{other-register}
-use Rattle.p9_cmean.specs.Cells as c
-use Rattle.p9_cmean.specs.Cells.{Cell, Object}
-use Rattle.p9_cmean.specs.Plays.{Call}
-use Rattle.p9_cmean.specs.Turns.{room}
-use Rattle.p9_sim.specs.Memory.{Map, Ground, StandsCell, StandCells, Owner}
-use Rattle.p9_sim.specs.Matching.{IsLaidOut, Lies, Match, AtCall}
-use Rattle.p9_sim.specs.Functions.{lowered_stack, after_entry, kept_with}
-use Rattle.p9_entry.specs.Entering.{IsEntered, EntriesAreMatched}
+use Rattle.p9_cmean.specs.Cells.{Cell}
+use Rattle.p9_sim.specs.Memory.{Map, Ground, StandsCell, StandCells}
+use Rattle.p9_sim.specs.Matching.{IsLaidOut, Lies}
+use Rattle.p9_sim.specs.Functions.{after_entry}
+use Rattle.p9_entry.specs.Entering.{EntriesAreMatched}
 
 -- A STORED WORD
 
@@ -54,6 +49,7 @@ byte-apart x a v byte high h = by (nat_lt a stack_start) refl (nat_lt byte stack
       where
         up : stack_start ≤ byte
         up = grind (arith, nat_tests)
+
         shifted : (byte < a) ⊎ (a + 4 ≤ byte) → (byte - stack_start < a - stack_start) ⊎ (a - stack_start + 4 ≤ byte - stack_start)
         shifted (inl l) = inl (let u = up in omega (arith, l, u, high))
         shifted (inr l) = inr (omega (arith, l, high))
@@ -95,7 +91,13 @@ record Entered (b : Bool) (frame : ℕ) (x y : State) : Type 0 where
 
 entered-by : (b : Bool) (frame : ℕ) (x : State) → HoldsWords x.core → IsLaidOut x → stack_start + taken_if b frame ≤ reg x.core 29 → Entered b frame x (entry_by b frame x)
 entered-by false frame x words laid high = record {
-  stack = omega arith; base = refl; result = refl; words = words; left = refl; out = refl; laid = laid;
+  stack = omega arith;
+  base = refl;
+  result = refl;
+  words = words;
+  left = refl;
+  out = refl;
+  laid = laid;
   sizes = record { order = refl; data_start = refl; low = refl; stack = refl };
   memory = λ byte h. refl;
 }
@@ -113,7 +115,7 @@ entered-by true frame x words laid high =
       base = ap (λ r. slice_index r 30) w.regs ∙ other-register x.core.regs 29 sp 30 (λ h. omega (arith, h));
       result = ap (λ r. slice_index r 1) w.regs ∙ other-register x.core.regs 29 sp 1 (λ h. omega (arith, h));
       words = memory-words-by (nat_lt sp stack_start) low (with_word_in low.order low.low (sp - text_start) (reg x.core 31)) (with_word_in low.order low.stack (sp - stack_start) (reg x.core 31)) low_words
-        (word-bytes low.order low.low (sp - text_start) (reg x.core 31) words.low_bytes) (word-bytes low.order low.stack (sp - stack_start) (reg x.core 31) words.stack_bytes);
+          (word-bytes low.order low.low (sp - text_start) (reg x.core 31) words.low_bytes) (word-bytes low.order low.stack (sp - stack_start) (reg x.core 31) words.stack_bytes);
       left = refl;
       out = refl;
       laid = record { text = laid.text; gap = omega (arith, start, gap); data_and_bss = omega (arith, start, lows, within); above = omega (arith, lows, above); stack_size = stacks ∙ size };
@@ -130,9 +132,10 @@ pub stands-same : (g : Ground) (m : Map) (p q : ℕ → ℕ) (cells : List Cell)
 stands-same g m p q [] start same h = tt
 stands-same g m p q (cell ∷ cells) start same h =
     let z : start + 0 ≡ start = omega arith in
-    let first : p start ≡ q start = subst (λ n. p n ≡ q n) z (same 0 (omega arith)) in
-    (subst (λ b. StandsCell g m cell b) first h.0,
-    stands-same g m p q cells (start + 1) (λ i l. let n : start + suc i ≡ start + 1 + i = omega arith in subst (λ k. p k ≡ q k) n (same (suc i) (omega (arith, l)))) h.1)
+    let first : p start ≡ q start = subst (λ n. p n ≡ q n) z (same 0 (omega arith)) in (
+      subst (λ b. StandsCell g m cell b) first h.0,
+      stands-same g m p q cells (start + 1) (λ i l. let n : start + suc i ≡ start + 1 + i = omega arith in subst (λ k. p k ≡ q k) n (same (suc i) (omega (arith, l)))) h.1,
+    )
 
 taken-small : (b : Bool) (frame : ℕ) → frame % 4 ≡ 0 → (taken_if b frame ≤ frame + 4) × (taken_if b frame % 4 ≡ 0)
 taken-small true frame four = (omega arith, omega (arith, four))
@@ -150,6 +153,7 @@ not-kept true others frame top byte fits o h low = λ t. o t || outside h t
       where
         past : nat_lt byte (top - (frame + 4) + 4) ≡ false
         past = let a : top - (frame + 4) + 4 ≤ byte = omega (arith, l, fits) in grind (arith, nat_tests)
+
         by : (p : Bool) → (p && nat_lt byte (top - (frame + 4) + 4)) ≡ false
         by true = past
         by false = refl
@@ -165,10 +169,12 @@ entries_are_matched g others active need m call s x def at frame room_is fits =
     record {
       found = found;
       matched = record {
-        count = h.count; statics = h.statics; fourfold = h.fourfold;
+        count = h.count;
+        statics = h.statics;
+        fourfold = h.fourfold;
         cells = λ number start object is alive placed. stands-same g m (read_byte x.core) _ object.cells start
-          (λ i l. sym (e.memory (start + i) (where-is (start + i) (h.lie (start + i) (record { number = number; object = object; start = start; k = i; is_object = is; alive = alive; placed = placed; inside = l; is = refl })))))
-          (h.cells number start object is alive placed);
+            (λ i l. sym (e.memory (start + i) (where-is (start + i) (h.lie (start + i) (record { number = number; object = object; start = start; k = i; is_object = is; alive = alive; placed = placed; inside = l; is = refl })))))
+            (h.cells number start object is alive placed);
         lie = λ byte w. lies byte (h.lie byte w);
         disjoint = h.disjoint;
         free = λ byte w. not-kept (keeps def) others def.frame (reg x.core 29) byte (omega (arith, found)) (h.free byte w) (where-is byte (h.lie byte w)) (omega (arith, found));
@@ -193,6 +199,7 @@ entries_are_matched g others active need m call s x def at frame room_is fits =
     where-is : (byte : ℕ) → Lies x.core byte → (byte < stack_start) ⊎ (reg x.core 29 ≤ byte)
     where-is byte (inl i) = let i1 = i.1 in let above = at.matched.laid.above in inl (omega (arith, i1, above))
     where-is byte (inr i) = inr i.0
+
     lies : (byte : ℕ) → Lies x.core byte → (let y : State = after_entry def x in Lies y.core byte)
     lies byte i = by (taken-small (keeps def) def.frame frame.0) i
       where

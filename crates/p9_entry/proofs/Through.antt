@@ -1,30 +1,28 @@
 -- The code of a function that gives what another gives.
-use Rattle.std.proofs.Common.{◌≡◌, ◌≢◌, ◌≤◌, ◌<◌, ◌⊎◌, inl, inr, ℕ, zero, suc, ◌+◌, ◌-◌, ◌*◌, ◌%◌, ◌^◌, ◌&&◌, ◌||◌, nat_le, nat_lt, Bool, true, false, Option, Some, None, List, [], ◌∷◌, length, slice_index, refl, sym, ap, ◌∙◌, subst, arith}
+use Rattle.std.proofs.Common.{◌≡◌, ◌≢◌, ◌≤◌, ◌<◌, ◌⊎◌, inl, inr, ℕ, ◌+◌, ◌&&◌, ◌||◌, nat_le, nat_lt, Bool, true, false, Some, List, [], length, slice_index, refl, sym, ap, ◌∙◌, subst, arith}
 use Rattle.std.proofs.lemmas.Bool.{true≢false, and_parts, or_parts, leb-true}
 use Rattle.std.proofs.lemmas.Bool.Decides.{nat_tests}
 use Rattle.std.proofs.lemmas.List.{get_or-set_same, length-set}
 use Rattle.p9_base.specs.Words.{IsWord, word_sum}
-use Rattle.p9_base.specs.Core.{text_start, stack_start, stack_end, reg, with_reg}
+use Rattle.p9_base.specs.Core.{text_start, stack_start, reg, with_reg}
 use Rattle.p9_base.specs.SystemCalls.{State}
 use Rattle.p9_base.specs.Holding.{HoldsWords}
 use Rattle.p9_base.proofs.Holding.{with_register-words}
 use Rattle.p9_abs.specs.declared.instructions.TextDef.{TextDef}
-use Rattle.p9_abs.specs.Steps.{Mach, Around, Step, Calls, Returns, step}
+use Rattle.p9_abs.specs.Steps.{Mach, Around, Calls, Returns, step}
 use Rattle.p9_abs.specs.Runs.{keeps, in_word}
 use Rattle.p9_abs.specs.Keeping.{nowhere}
 use Rattle.p9_abs.proofs.Fixed.{other-register}
-use Rattle.p9_cmean.specs.declared.Place.{Place}
 use Rattle.p9_cmean.specs.Cells as c
 use Rattle.p9_cmean.specs.Cells.{FunctionName, Value}
 use Rattle.p9_cmean.specs.Plays.{Call}
-use Rattle.p9_cmean.specs.Turns.{room}
 use Rattle.p9_sim.specs.Memory.{Map, Ground, StandsValue, Owner}
-use Rattle.p9_sim.specs.Matching.{Lies, Match, StandArguments, IsArgument, AtCall, Entry, entry_of, Answers}
-use Rattle.p9_sim.specs.Playing.{Counting, first_count, after_call, Setting, after_return, after_jal}
-use Rattle.p9_sim.specs.Functions.{lowered_stack, after_entry, kept_with, setting_of}
+use Rattle.p9_sim.specs.Matching.{Lies, StandArguments, IsArgument, AtCall, entry_of, Answers}
+use Rattle.p9_sim.specs.Playing.{Counting, first_count, after_call, Setting}
+use Rattle.p9_sim.specs.Functions.{lowered_stack, after_entry, setting_of}
 use Rattle.p9_sim.specs.Examples.{without_frame, at_first}
 use Rattle.p9_sim.proofs.Registers.{with_regs, words-with, match-with, extends-self}
-use Rattle.p9_entry.specs.Entering.{IsEntered, through_code, through, ThroughIsRight}
+use Rattle.p9_entry.specs.Entering.{IsEntered, through_code, ThroughIsRight}
 use Rattle.p9_entry.proofs.Matching.{entries_are_matched}
 
 behind : State → Mach
@@ -79,7 +77,7 @@ module _ (g : Ground) (symbol : ℕ → ℕ) (counting : Counting) (others : ℕ
   at-inner : (to : ℕ) → IsWord to → AtCall g set.around.banned set.shut (active + need) m inner s (linked to)
   at-inner to word = record {
     matched = match-with g set.shut set.shut (active + need) m s y (with_reg y.core.regs 31 to) text_start entered.matched (with_register-words y.core 31 to word entered.matched.words)
-      (other-register y.core.regs 31 to 29 (λ h. omega (arith, h))) (other-register y.core.regs 31 to 30 (λ h. omega (arith, h))) entered.matched.free;
+        (other-register y.core.regs 31 to 29 (λ h. omega (arith, h))) (other-register y.core.regs 31 to 30 (λ h. omega (arith, h))) entered.matched.free;
     arguments = (let z : State = linked to in subst (λ vs. StandArguments g m vs z.core) (sym none) tt);
     in_stack = λ byte i. absurd (no-argument to byte i);
     allowed = λ byte i. absurd (no-argument to byte i);
@@ -140,11 +138,15 @@ module _ (g : Ground) (symbol : ℕ → ℕ) (counting : Counting) (others : ℕ
         let al = h.aligned in let top = h.top in let floor = h.floor in let s29 = stack in
         record {
           matched = record {
-            count = q.count; statics = q.statics; fourfold = q.fourfold; cells = q.cells;
+            count = q.count;
+            statics = q.statics;
+            fourfold = q.fourfold;
+            cells = q.cells;
             lie = λ byte o. lies byte (free byte o).1 (q.lie byte o);
             disjoint = q.disjoint;
             free = λ byte o. (free byte o).0;
-            output = q.output; input = q.input;
+            output = q.output;
+            input = q.input;
             base = other 30 (λ h. omega (arith, h)) (λ h. omega (arith, h)) ∙ q.base;
             aligned = omega (arith, al, s29);
             top = omega (arith, top, s29);
@@ -156,12 +158,16 @@ module _ (g : Ground) (symbol : ℕ → ℕ) (counting : Counting) (others : ℕ
             data_start = q.data_start;
           };
           leaves = record {
-            addresses = l.addresses; hidden = l.hidden; objects = l.objects;
+            addresses = l.addresses;
+            hidden = l.hidden;
+            objects = l.objects;
             result = subst (λ n. StandsValue g u v n) (sym (other 1 (λ h. omega (arith, h)) (λ h. omega (arith, h)))) l.result;
             stack = stack;
             sizes = record {
-              order = l.sizes.order ∙ entered.sizes.order; data_start = l.sizes.data_start ∙ entered.sizes.data_start;
-              low = l.sizes.low ∙ entered.sizes.low; stack = l.sizes.stack ∙ entered.sizes.stack;
+              order = l.sizes.order ∙ entered.sizes.order;
+              data_start = l.sizes.data_start ∙ entered.sizes.data_start;
+              low = l.sizes.low ∙ entered.sizes.low;
+              stack = l.sizes.stack ∙ entered.sizes.stack;
             };
             memory = λ byte loose where_ owner words. l.memory byte refl (lower byte where_) owner (no-argument to byte) ∙ entered.memory byte where_;
           };
@@ -177,12 +183,23 @@ through_is_right counting g symbol need name inner place same room_is others act
     let entered = entries_are_matched g others active need m call s x def at (refl, omega arith) room_is fits in
     let ask : Call = record { function = inner; arguments = []; place = place } in
     let here : Setting = setting_of g counting symbol def others active need (entry_of m s call x) in
-    let y0 : State = after_entry def x in
-    (entered.found,
-    (record { steps = 0; to = at_first y0; count = first_count; goes = (refl, refl) },
-    behind y0, first-step here.around y0 ∙ ap (λ a. Calls a (behind y0)) same, record { steps = omega arith; backs = omega arith }, m, extends-self m,
-    (λ to word. at-inner g symbol counting others active need m call ask s x at entered refl to word),
-    λ to word v t u w ans.
-      (record { steps = 0; to = last w; count = after_call first_count; goes = (refl, refl) },
-      behind w, last-step here.around w, record { steps = omega arith; backs = omega arith }, u,
-      λ back small. returned g symbol counting others active need m call ask s x at entered refl to v t u w ans back small)))
+    let y0 : State = after_entry def x in (
+      entered.found,
+      (
+        record { steps = 0; to = at_first y0; count = first_count; goes = (refl, refl) },
+        behind y0,
+        first-step here.around y0 ∙ ap (λ a. Calls a (behind y0)) same,
+        record { steps = omega arith; backs = omega arith },
+        m,
+        extends-self m,
+        (λ to word. at-inner g symbol counting others active need m call ask s x at entered refl to word),
+        λ to word v t u w ans. (
+          record { steps = 0; to = last w; count = after_call first_count; goes = (refl, refl) },
+          behind w,
+          last-step here.around w,
+          record { steps = omega arith; backs = omega arith },
+          u,
+          λ back small. returned g symbol counting others active need m call ask s x at entered refl to v t u w ans back small,
+        ),
+      ),
+    )

@@ -1,5 +1,5 @@
 -- What the entry of a function leaves, and a small function that calls another.
-use Rattle.std.specs.Prelude.{◌≡◌, ◌⊎◌, ◌<◌, ◌≤◌, ℕ, ◌+◌, Bool, true, List, [], ◌∷◌}
+use Rattle.std.specs.Prelude.{◌≡◌, ◌⊎◌, ◌<◌, ◌≤◌, ℕ, ◌+◌, Bool, List, [], ◌∷◌}
 use Rattle.p9_base.specs.Core.{stack_start, reg, read_byte}
 use Rattle.p9_base.specs.SystemCalls.{State}
 use Rattle.p9_abs.specs.declared.instructions.Op.TheVariants.{Jal, Ret}
