@@ -1,6 +1,5 @@
 -- The union of C modules as a program.
-use Rattle.std.proofs.Common.{◌≡◌, ◌≢◌, ◌⊎◌, inl, inr, ℕ, List, refl, sym, ap, ◌∙◌, subst}
-use Rattle.p9_abs.specs.Runs.{Routine, Addresses}
+use Rattle.std.proofs.Common.{◌≡◌, ◌≢◌, ◌⊎◌, inl, inr, ℕ, refl, sym, ap, ◌∙◌, subst}
 use Rattle.p9_cmean.specs.Cells as c
 use Rattle.p9_cmean.specs.Cells.{FunctionName}
 use Rattle.p9_cmean.specs.Plays.{Call}
@@ -8,8 +7,7 @@ use Rattle.p9_cmean.specs.Union.{Union, FunctionEntry, base_need}
 use Rattle.p9_cmean.specs.SystemCalls.{SystemCall}
 use Rattle.p9_cmean.specs.CRun.{Callee, System, Defined, NoCallee, callee, callee_body, functions_of, main_call, first_state}
 use Rattle.p9_cmean.proofs.Fitting.{bodies_last}
-use Rattle.p9_sim.specs.Memory.{Ground}
-use Rattle.p9_compose.specs.Calling.{HasCode, IsMeaningless, IsAbsent, IsProgram, UnionIsProgram, MainIsRight}
+use Rattle.p9_compose.specs.Calling.{HasCode, IsMeaningless, IsAbsent, UnionIsProgram, MainIsRight}
 use Rattle.p9_compose.proofs.Composing.{calls_are_right}
 
 system-is : (system : SystemCall) → System system ≢ NoCallee

@@ -123,10 +123,10 @@ MainIsRight =
     → (input : List ℕ) (turns : ℕ) (m : Map) (f : ℕ) (kept : Option ℕ) (callers : List Active) (rt : Routine) (y z : Mach)
     → slice_get rs f ≡ Some rt → IsWord (p.instruction f z.at)
     → (let call : Call = main_call union in
-      let a : Active = waiting f kept z in
-      let others : ℕ → Bool = kept_by (a ∷ callers) in
-      let x : State = linked_to (p.instruction f z.at) z.state in
-      let s : c.State = first_state union input in
-      step (around_of p rt (run_at y f kept callers)) rt.def.code y ≡ Calls (g.function call.function) z
-      → AtCall g others others base_need m call s x
-      → ComesTo p rs g most turns 0 (Going (run_at y f kept callers)) a callers base_need (entry_of m s call x) (run_of union input turns))
+    let a : Active = waiting f kept z in
+    let others : ℕ → Bool = kept_by (a ∷ callers) in
+    let x : State = linked_to (p.instruction f z.at) z.state in
+    let s : c.State = first_state union input in
+    step (around_of p rt (run_at y f kept callers)) rt.def.code y ≡ Calls (g.function call.function) z
+    → AtCall g others others base_need m call s x
+    → ComesTo p rs g most turns 0 (Going (run_at y f kept callers)) a callers base_need (entry_of m s call x) (run_of union input turns))
