@@ -3,3 +3,4 @@ pub mod Shaping
 pub mod Ending
 pub mod Entering
 pub mod Composing
+pub mod Modules

@@ -1,5 +1,5 @@
 -- What the run of a program comes to at a call, where the code of its functions is right.
-use Rattle.std.specs.Prelude.{◌≡◌, ◌⊎◌, ◌<◌, ◌≤◌, ℕ, suc, ◌+◌, ◌*◌, Bool, Option, Some, List, [], ◌∷◌, length, slice_get}
+use Rattle.std.specs.Prelude.{◌≡◌, ◌≢◌, ◌⊎◌, ◌<◌, ◌≤◌, ℕ, suc, ◌+◌, ◌*◌, Bool, Option, Some, List, [], ◌∷◌, length, slice_get}
 use Rattle.p9_base.specs.Words.{IsWord}
 use Rattle.p9_base.specs.SystemCalls.{State, exit_text}
 use Rattle.p9_abs.specs.Validity.{EndsWell}
@@ -11,6 +11,8 @@ use Rattle.p9_cmean.specs.Cells.{FunctionName, Value}
 use Rattle.p9_cmean.specs.Plays.{Call, Play, Done, Wrong, NoMeaning, Exit, Cut, Turn, Ask, Moved}
 use Rattle.p9_cmean.specs.PlayLaws.{Lasts}
 use Rattle.p9_cmean.specs.Turns.{Ended, Out, Undefined, Deep, NoOutcome, End, Gave, Over, Functions, calls_to}
+use Rattle.p9_cmean.specs.Union.{Union, base_need}
+use Rattle.p9_cmean.specs.CRun.{callee, NoCallee, functions_of, main_call, first_state, run_of}
 use Rattle.p9_sim.specs.Memory.{Map, Ground}
 use Rattle.p9_sim.specs.Matching.{AtCall, Entry, entry_of, Answers}
 use Rattle.p9_sim.specs.Playing.{AllSteps}
@@ -104,3 +106,27 @@ CallsAreRight =
     let x : State = linked_to (p.instruction f z.at) z.state in
     AtCall g others others active m call s x
     → ComesTo p rs g most turns copied (Going (run_at y f kept callers)) a callers active (entry_of m s call x) (calls_to turns functions active turns copied call s))
+
+-- C MODULES: their union is a program where each function that is there has its code, which is right
+
+abbrev pub UnionIsProgram : Type 0
+UnionIsProgram =
+    (p : Addresses) (rs : List Routine) (g : Ground) (union : Union) (most : ℕ)
+    → ((name : FunctionName) → callee union name ≢ NoCallee → HasCode p rs g (functions_of union) most name)
+    → IsProgram p rs g (functions_of union) most
+
+-- So the call of `main` comes to what the run of C comes to, at every number of turns.
+abbrev pub MainIsRight : Type 0
+MainIsRight =
+    (p : Addresses) (rs : List Routine) (g : Ground) (union : Union) (most : ℕ)
+    → ((name : FunctionName) → callee union name ≢ NoCallee → HasCode p rs g (functions_of union) most name)
+    → (input : List ℕ) (turns : ℕ) (m : Map) (f : ℕ) (kept : Option ℕ) (callers : List Active) (rt : Routine) (y z : Mach)
+    → slice_get rs f ≡ Some rt → IsWord (p.instruction f z.at)
+    → (let call : Call = main_call union in
+    let a : Active = waiting f kept z in
+    let others : ℕ → Bool = kept_by (a ∷ callers) in
+    let x : State = linked_to (p.instruction f z.at) z.state in
+    let s : c.State = first_state union input in
+    step (around_of p rt (run_at y f kept callers)) rt.def.code y ≡ Calls (g.function call.function) z
+    → AtCall g others others base_need m call s x
+    → ComesTo p rs g most turns 0 (Going (run_at y f kept callers)) a callers base_need (entry_of m s call x) (run_of union input turns))

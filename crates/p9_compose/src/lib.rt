@@ -4,4 +4,4 @@
 
 mod laws;
 
-pub use laws::calls_are_right;
+pub use laws::{calls_are_right, modules_are_right};
