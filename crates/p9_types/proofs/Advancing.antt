@@ -1,9 +1,9 @@
 -- Tasks are taken from the end; what is taken leaves the others covered.
-use Rattle.std.proofs.Common.{◌≡◌, ◌≤◌, ◌<◌, ◌⊎◌, inl, inr, ℕ, zero, suc, ◌+◌, Bool, true, false, IsTrue, nat_eq, is_some, if◌then◌else◌, List, [], ◌∷◌, ◌++◌, length, slice_get, Option, Some, None, append_assoc, eq-eqb, true≢false, refl, sym, ap, subst, ◌∙◌, arith}
+use Rattle.std.proofs.Common.{◌≡◌, ◌≤◌, ◌⊎◌, inl, inr, ℕ, ◌+◌, Bool, true, false, IsTrue, nat_eq, is_some, if◌then◌else◌, List, [], ◌∷◌, ◌++◌, slice_get, Option, Some, append_assoc, eq-eqb, true≢false, refl, sym, ap, subst, ◌∙◌, arith}
 use Rattle.std.specs.Map.{lookup}
 use Rattle.std.proofs.lemmas.Bool.{eqb-true}
 use Rattle.p9_lang.specs.Types.{Tagged, Tags}
-use Rattle.p9_lang.specs.Layout.{Extent, layout, body_extent}
+use Rattle.p9_lang.specs.Layout.{layout, body_extent}
 use Rattle.p9_lang.specs.TagRules.{NoneContainsItself}
 use Rattle.p9_lang.proofs.Layouts.{layout_is_that_of_members}
 use Rattle.p9_types.specs.declared.capped.Capped.{Capped}
@@ -12,7 +12,7 @@ use Rattle.p9_types.specs.declared.reaching.Task.TheVariants.{Visit, Finish}
 use Rattle.p9_types.specs.Capping.{Alike}
 use Rattle.p9_types.specs.Told.{Table, told_option, told_entry, is_known, known_extent, IsSound}
 use Rattle.p9_types.specs.Reaching.{inner_tags}
-use Rattle.p9_types.specs.Tasks.{AreAll, total_of, number_of, visits, Stands, Covered, AreCovered, Awaited, Awaits, weight, work, task_weight, Advances}
+use Rattle.p9_types.specs.Tasks.{AreAll, total_of, number_of, visits, Stands, Covered, AreCovered, Awaits, weight, work, task_weight, Advances}
 use Rattle.p9_types.proofs.AlikeExtents.{alike_then, alike_same, bodies_alike}
 use Rattle.p9_types.proofs.Weights.{all_along, tag_all_within, weight_is}
 

@@ -1,6 +1,6 @@
 -- Arrays of arrays, as their elements and the count of these.
-use Rattle.std.proofs.Common.{◌≡◌, ◌≤◌, ℕ, zero, suc, ◌+◌, ◌*◌, false, refl, sym, ap, ◌∙◌, arith}
-use Rattle.p9_lang.specs.Types.{TypeTree, Void, Char, UChar, Short, UShort, Int, UInt, Long, ULong, Pointer, Array, Function, Tagged}
+use Rattle.std.proofs.Common.{◌≡◌, ◌≤◌, ℕ, ◌*◌, false, refl, sym, ap, ◌∙◌, arith}
+use Rattle.p9_lang.specs.Types.{TypeTree, Array}
 use Rattle.p9_lang.specs.Conversions.{is_array}
 use Rattle.p9_types.specs.Capping.{capped, innermost, count_in}
 use Rattle.p9_types.specs.Reaching.{inner_of}

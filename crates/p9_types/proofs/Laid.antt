@@ -1,8 +1,8 @@
 -- The layout of a type, by what is known of the structures within it.
-use Rattle.std.proofs.Common.{◌≡◌, ◌≤◌, ◌<◌, ℕ, IsTrue, Option, Some, None, IsSomeAnd, refl, sym, ap, subst, ◌∙◌, arith}
+use Rattle.std.proofs.Common.{◌≡◌, ◌≤◌, ◌<◌, IsTrue, Option, Some, None, IsSomeAnd, refl, sym, ap, ◌∙◌, arith}
 use Rattle.p9_lang.specs.Types.{TypeTree, Tagged, Tags}
 use Rattle.p9_lang.specs.Layout.{Extent, extent, layout, size_limit}
-use Rattle.p9_types.specs.Capping.{capped, AreAlike, Alike}
+use Rattle.p9_types.specs.Capping.{Alike}
 use Rattle.p9_types.specs.Told.{Table, is_known, known_extent, IsSound}
 use Rattle.p9_types.specs.Reaching.{inner_of}
 use Rattle.p9_types.specs.Tasks.{AreAll}

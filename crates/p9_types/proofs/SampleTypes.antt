@@ -1,10 +1,10 @@
 -- What the tests' structures are.
-use Rattle.std.proofs.Common.{◌≡◌, ◌<◌, ℕ, zero, suc, Bool, List, [], ◌∷◌, ◌++◌, Some, false, codes, refl, sym, ap, ◌∙◌, subst, arith}
+use Rattle.std.proofs.Common.{◌≡◌, ℕ, zero, suc, Bool, List, [], ◌∷◌, ◌++◌, Some, false, codes, sym, ap, ◌∙◌, subst, arith}
 use Rattle.p9_lang.specs.declared.types.Member.{Member}
 use Rattle.p9_lang.specs.declared.types.Tag.{Tag}
 use Rattle.p9_lang.specs.Types.{Char, Short, Int, MemberTree, member_of, members_of, tag_of, tags_of}
 use Rattle.p9_lang.specs.LayoutExamples.{of}
-use Rattle.p9_lang.specs.TagRules.{Ends, NoneContainsItself}
+use Rattle.p9_lang.specs.TagRules.{NoneContainsItself}
 use Rattle.p9_types.specs.Examples.{sample_tag, sample}
 
 pub sample_tag_is : (u : Bool) (name : List ℕ) (none a b d : List Member) (k m n : Member) → name ≡ [] → none ≡ []

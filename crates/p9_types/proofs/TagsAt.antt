@@ -1,5 +1,5 @@
 -- Structures by their numbers.
-use Rattle.std.proofs.Common.{◌≡◌, ◌≤◌, ◌<◌, ℕ, zero, suc, List, [], ◌∷◌, length, slice_get, get_or, Option, Some, None, MatchOption, IfSome, Bor, refl, sym, ap, ◌∙◌, arith}
+use Rattle.std.proofs.Common.{◌≡◌, ◌≤◌, ◌<◌, ℕ, zero, suc, List, [], ◌∷◌, length, slice_get, get_or, Option, Some, None, MatchOption, IfSome, Bor, refl, sym, ap, arith}
 use Rattle.std.specs.List.{HoldsAt}
 use Rattle.p9_lang.specs.declared.types.Tag.{Tag}
 use Rattle.p9_lang.specs.Types.{tag_of, tags_of}

@@ -1,5 +1,5 @@
 -- How many tasks a structure leads to: more than those in it together, since none contains itself.
-use Rattle.std.proofs.Common.{◌≡◌, ◌≤◌, ◌<◌, ◌⊎◌, inl, inr, ℕ, zero, suc, ◌+◌, List, [], ◌∷◌, ◌++◌, length, slice_get, Option, Some, None, refl, sym, ap, subst, ◌∙◌, arith}
+use Rattle.std.proofs.Common.{◌≡◌, ◌≤◌, ◌<◌, ◌⊎◌, inl, inr, ℕ, zero, suc, ◌+◌, List, [], ◌∷◌, ◌++◌, length, slice_get, Option, Some, None, refl, sym, ap, ◌∙◌, arith}
 use Rattle.std.proofs.lemmas.Bool.{cases_lt}
 use Rattle.p9_lang.specs.Types.{TypeTree, Array, Tagged, MemberTree, TagTree, Tags}
 use Rattle.p9_lang.specs.TagRules.{Within, AreWithin, BodyWithin, TagWithin, Ends, NoneContainsItself}

@@ -1,6 +1,6 @@
 -- Sizes told up to one byte past the limit: those above the limit count as alike.
 use Rattle.std.specs.Prelude.{◌≡◌, ℕ, suc, ◌*◌, min, Option, Some, None}
-use Rattle.p9_lang.specs.Types.{TypeTree, Void, Char, UChar, Short, UShort, Int, UInt, Long, ULong, Pointer, Array, Function, Tagged}
+use Rattle.p9_lang.specs.Types.{TypeTree, Array}
 use Rattle.p9_lang.specs.Layout.{Extent}
 
 abbrev pub capped : ℕ → ℕ

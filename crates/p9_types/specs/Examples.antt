@@ -1,6 +1,6 @@
 -- Structures that tests are run on.
-use Rattle.std.specs.Prelude.{Bool, false, List, [], ◌∷◌, Some, codes}
-use Rattle.p9_lang.specs.Types.{Char, Short, Int, Tagged, TagTree, Tags}
+use Rattle.std.specs.Prelude.{Bool, false, [], ◌∷◌, Some, codes}
+use Rattle.p9_lang.specs.Types.{Char, Short, Int, TagTree, Tags}
 use Rattle.p9_lang.specs.LayoutExamples.{of}
 
 -- struct { char c; int n; short s; }, or a union of these

@@ -1,6 +1,6 @@
 -- What is still to be done until the extents of all structures within a type are known: tasks, of
 -- which the last comes first.
-use Rattle.std.specs.Prelude.{◌≡◌, ◌<◌, ◌⊎◌, ℕ, zero, suc, ◌+◌, IsTrue, List, [], ◌∷◌, ◌++◌, length, slice_get}
+use Rattle.std.specs.Prelude.{◌≡◌, ◌<◌, ◌⊎◌, ℕ, zero, suc, ◌+◌, IsTrue, List, [], ◌∷◌, length, slice_get}
 use Rattle.p9_lang.specs.Types.{Tags}
 use Rattle.p9_types.specs.declared.reaching.Task.{Task}
 use Rattle.p9_types.specs.declared.reaching.Task.TheVariants.{Visit, Finish}

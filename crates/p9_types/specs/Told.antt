@@ -1,5 +1,5 @@
 -- What is known of types and of structures.
-use Rattle.std.specs.Prelude.{◌≡◌, ℕ, Bool, IsTrue, List, Option, Some, None, is_some, nat_eq}
+use Rattle.std.specs.Prelude.{ℕ, Bool, IsTrue, List, Option, Some, None, is_some, nat_eq}
 use Rattle.std.specs.Map.{lookup}
 use Rattle.p9_lang.specs.Types.{Tagged, Tags}
 use Rattle.p9_lang.specs.Layout.{Extent, layout}

@@ -1,5 +1,4 @@
-//! Types of C: how large they are, where their members stand, and when a value of one type may
-//! stand where one of another is asked.
+//! Types of C: how many bytes their objects have, and how these are aligned.
 #![tactic(auto)]
 
 mod capped;

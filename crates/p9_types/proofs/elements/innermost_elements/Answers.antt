@@ -1,6 +1,6 @@
-use Rattle.std.proofs.Common.{◌≡◌, ◌*◌, ◌<◌, ◌+◌, arith, sym, ap, ◌∙◌}
+use Rattle.std.proofs.Common.{◌*◌, arith, sym, ap, ◌∙◌}
 use Rattle.p9_lang.specs.Types.{type_of}
-use Rattle.p9_types.specs.Capping.{capped, innermost, count_in, array_depth}
+use Rattle.p9_types.specs.Capping.{capped, count_in, array_depth}
 use Rattle.p9_types.proofs.ArrayElements.{inner_step, count_step, count_last, no_array_inner, no_array_count}
 use Rattle.p9_types.proofs.elements.innermost_elements.Goals as goal
 

@@ -1,9 +1,8 @@
-use Rattle.std.proofs.Common.{IsTrue, Some, None, ap, subst, arith}
+use Rattle.std.proofs.Common.{Some, None, subst}
 use Rattle.p9_lang.specs.Types.{type_of, tags_of}
 use Rattle.p9_lang.specs.Layout.{extent, layout}
 use Rattle.p9_types.specs.Capping.{Alike}
-use Rattle.p9_types.specs.Told.{told, told_option, is_known, known_extent, IsSound}
-use Rattle.p9_types.specs.Reaching.{inner_of}
+use Rattle.p9_types.specs.Told.{told, told_option, known_extent, IsSound}
 use Rattle.p9_types.proofs.Laid.{laid_out, none_alike, exact_alike, large_alike}
 use Rattle.p9_types.proofs.laying.layout.Goals as goal
 

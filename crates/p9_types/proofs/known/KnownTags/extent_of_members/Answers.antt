@@ -1,4 +1,4 @@
-use Rattle.std.proofs.Common.{◌-◌, length, take, drop, Some, sym, ap, subst, ◌∙◌}
+use Rattle.std.proofs.Common.{◌-◌, length, take, drop, subst}
 use Rattle.p9_lang.specs.Types.{type_of, members_of}
 use Rattle.p9_lang.specs.Layout.{extent, filled, nothing_yet}
 use Rattle.p9_types.specs.Capping.{Alike}
