@@ -1,0 +1,11 @@
+//! The lexer's tokens as the grammar's terminals.
+#![tactic(auto)]
+
+mod kinds;
+mod laws;
+#[cfg(test)]
+mod tests;
+mod words;
+
+pub use kinds::terminal;
+pub use laws::one_spelling;
