@@ -1,0 +1,3 @@
+pub mod Textless
+pub mod Growing
+pub mod Endless
