@@ -1,5 +1,5 @@
 -- Where lines go: each branch, jump and call has a target, which is the next instruction or the goal.
-use Rattle.std.proofs.Common.{ℕ, ◌+◌, ◌-◌, ◌/◌, ◌%◌, ◌^◌, ◌==◌, ◌≡◌, ◌≤◌, ◌<◌, ◌⊎◌, nat_lt, Bool, true, false, Option, Some, None, if◌then◌else◌, List, [], ◌∷◌, ◌++◌, length, refl, inl, inr}
+use Rattle.std.proofs.Common.{ℕ, ◌+◌, ◌-◌, ◌%◌, ◌^◌, ◌==◌, ◌≡◌, nat_lt, Bool, true, false, Option, Some, None, if◌then◌else◌, [], ◌∷◌, ◌++◌, refl, inl, inr}
 use Rattle.p9_abs.specs.declared.forms.Location.{Location}
 use Rattle.p9_abs.specs.declared.forms.Location.TheVariants.{Static, Argument, Frame, Based, Automatic}
 use Rattle.p9_abs.specs.declared.forms.Special.{Special}
@@ -14,18 +14,15 @@ use Rattle.p9_abs.specs.declared.forms.PairTest.{PairTest}
 use Rattle.p9_abs.specs.declared.forms.PairTest.TheVariants.{Equal, Unequal}
 use Rattle.p9_abs.specs.declared.forms.SignTest.{SignTest}
 use Rattle.p9_abs.specs.declared.forms.SignTest.TheVariants.{NotNegative, Positive, NotPositive, Negative}
-use Rattle.p9_abs.specs.declared.forms.Form.{Form}
 use Rattle.p9_abs.specs.declared.forms.Form.TheVariants as forms
-use Rattle.p9_r3k.specs.declared.inst.Inst.{Inst}
 use Rattle.p9_r3k.specs.declared.inst.Inst.TheVariants as i
-use Rattle.p9_r3k.specs.declared.lines.Line.{Line}
 use Rattle.p9_lines.specs.declared.parts.Access.{Access}
 use Rattle.p9_lines.specs.declared.parts.Access.TheVariants.{Load, Store, Address}
 use Rattle.p9_lines.specs.declared.parts.Setting.{Setting}
 use Rattle.p9_lines.specs.declared.parts.Way.{Way}
 use Rattle.p9_lines.specs.Insts.{access_inst, get_special, set_special, calculation, product, pair_branch, sign_branch, other_pair, other_sign}
-use Rattle.p9_lines.specs.FormLines.{plain, going_to, valued, stop, is_near, high_of, upper_of, low_of, wide_lines, constant_lines, near_lines, symbol_lines, static_lines, access_lines, move_lines, shift_lines, jump_lines, branch_lines, raise_lines, lower_lines, entry_lines, return_lines, lines_of, start_lines}
-use Rattle.p9_lines.specs.Laws.{is_branch, LeadsOn, Lead, LeadsAll, EntryLeads}
+use Rattle.p9_lines.specs.FormLines.{plain, going_to, stop, is_near, high_of, upper_of, low_of, constant_lines, static_lines, access_lines, move_lines, shift_lines, jump_lines, raise_lines, lower_lines}
+use Rattle.p9_lines.specs.Laws.{Lead, LeadsAll, EntryLeads}
 
 -- constants
 

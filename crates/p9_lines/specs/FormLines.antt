@@ -1,6 +1,6 @@
 -- The machine lines of each form of abstract instruction, of a function's entry, and of the start. R28 is a temporary
 -- of each by itself. A line's target is the number of an instruction.
-use Rattle.std.specs.Prelude.{ℕ, ◌+◌, ◌-◌, ◌/◌, ◌%◌, ◌^◌, ◌==◌, nat_lt, Bool, true, false, Option, Some, None, if◌then◌else◌, List, [], ◌∷◌, ◌++◌}
+use Rattle.std.specs.Prelude.{ℕ, ◌+◌, ◌-◌, ◌/◌, ◌%◌, ◌^◌, ◌==◌, nat_lt, Bool, false, Option, Some, None, if◌then◌else◌, List, [], ◌∷◌, ◌++◌}
 use Rattle.p9_abs.specs.declared.forms.Location.{Location}
 use Rattle.p9_abs.specs.declared.forms.Location.TheVariants.{Static, Argument, Frame, Based, Automatic}
 use Rattle.p9_abs.specs.declared.forms.Width.{Width}
@@ -12,7 +12,6 @@ use Rattle.p9_abs.specs.declared.forms.Form.TheVariants as forms
 use Rattle.p9_r3k.specs.declared.inst.Inst.{Inst}
 use Rattle.p9_r3k.specs.declared.inst.Inst.TheVariants as i
 use Rattle.p9_r3k.specs.declared.lines.Line.{Line}
-use Rattle.p9_r3k.specs.declared.lines.Value.{Value}
 use Rattle.p9_r3k.specs.declared.lines.Part.{Part}
 use Rattle.p9_r3k.specs.declared.lines.Part.TheVariants.{High, Low}
 use Rattle.p9_lines.specs.declared.parts.Access.{Access}

@@ -1,5 +1,5 @@
 -- The machine instruction that does the work of each abstract operation.
-use Rattle.std.specs.Prelude.{ℕ, ◌-◌, ◌^◌}
+use Rattle.std.specs.Prelude.{ℕ}
 use Rattle.p9_abs.specs.declared.forms.Special.{Special}
 use Rattle.p9_abs.specs.declared.forms.Special.TheVariants.{Hi, Lo}
 use Rattle.p9_abs.specs.declared.forms.Width.{Width}

@@ -1,6 +1,6 @@
 -- The machine words that lines need at most, with the no-ops of the schedule: one behind each branch, jump or load, and
 -- two before each line that writes HI or LO.
-use Rattle.std.specs.Prelude.{ℕ, ◌+◌, ◌≤◌, if◌then◌else◌, List, sum_by}
+use Rattle.std.specs.Prelude.{ℕ, ◌+◌, if◌then◌else◌, List, sum_by}
 use Rattle.p9_r3k.specs.declared.inst.Inst.{Inst}
 use Rattle.p9_r3k.specs.declared.lines.Line.{Line}
 use Rattle.p9_r3k.specs.Effects.{writes_pair}
