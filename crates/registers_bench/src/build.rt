@@ -10,12 +10,7 @@ const LOOPS: u32 = 5_000;
 
 const SIZE: u32 = 20;
 
-fn push(
-    alloc: Global,
-    code: &mut Vec<Abs>,
-    op: Op,
-    operands: &[Operand],
-) -> Result<(), NoMemory> {
+fn push(alloc: Global, code: &mut Vec<Abs>, op: Op, operands: &[Operand]) -> Result<(), NoMemory> {
     let list = operands.to_vec(alloc)?;
     code.push(Abs {
         op,
@@ -110,6 +105,8 @@ pub(crate) fn function(alloc: Global) -> Result<AFunction, NoMemory> {
     Ok(AFunction {
         autos: Autos { list: autos },
         code: Code { list },
-        depth: Depths { list: list_of_depths },
+        depth: Depths {
+            list: list_of_depths,
+        },
     })
 }

@@ -48,13 +48,16 @@ fn main(rt: HostRuntime) -> io::Result<()> {
     match counts(rt.alloc()) {
         Err(_) => println!(rt; "no memory"),
         Ok(None) => println!(rt; "not valid"),
-        Ok(Some(Counts {
-            regions,
-            homes,
-            instructions,
-            frame,
-        })) => println!(
-            rt;
+        Ok(
+            Some(
+                Counts {
+                    regions,
+                    homes,
+                    instructions,
+                    frame,
+                },
+            ),
+        ) => println!(rt;
             "{regions} regions, {homes} homes, {instructions} instructions, frame {frame}"
         ),
     }
