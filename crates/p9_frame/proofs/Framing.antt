@@ -1,5 +1,5 @@
 -- What settling makes is framed.
-use Rattle.std.proofs.Common.{ℕ, ◌+◌, ◌≡◌, ◌≤◌, ◌<◌, Bool, true, false, Option, Some, None, refl, sym, ap, ◌∙◌, subst, arith, List, [], ◌++◌, length, slice_get, slice_index, All, map, if◌then◌else◌}
+use Rattle.std.proofs.Common.{ℕ, ◌+◌, ◌≡◌, ◌≤◌, Bool, true, false, Option, Some, sym, ap, ◌∙◌, subst, arith, List, [], ◌++◌, length, map, if◌then◌else◌}
 use Rattle.p9_abs.specs.declared.instructions.Abs.{Abs}
 use Rattle.p9_abs.specs.declared.instructions.AFunction.{AFunction}
 use Rattle.p9_abs.specs.declared.instructions.TextDef.{TextDef}
@@ -8,14 +8,13 @@ use Rattle.p9_abs.specs.Automatics.{IsCode, IsInstructionOf, call_at}
 use Rattle.p9_abs.specs.Regions.{AreRegions, AreHomes}
 use Rattle.p9_abs.specs.Validity.{IsFrame}
 use Rattle.p9_abs.specs.OneCall.{ArePlaced}
-use Rattle.p9_abs.specs.Framed.{Plan, start_of, shifts_code, blocks, IsFramed, Framed}
+use Rattle.p9_abs.specs.Framed.{Plan, shifts_code, blocks, IsFramed, Framed}
 use Rattle.p9_abs.specs.Runs.{taken_by}
-use Rattle.p9_homes.specs.Tables.{IsTable}
 use Rattle.p9_homes.proofs.Finding.{home-is}
 use Rattle.p9_frame.specs.Sizes.{offsets_from, end_from, stated_sum}
 use Rattle.p9_frame.specs.Making.{first_of, IsMade}
 use Rattle.p9_frame.specs.Plans.{held, at_call, plan_of}
-use Rattle.p9_frame.specs.Emitted.{moves_of, blocks_in}
+use Rattle.p9_frame.specs.Emitted.{blocks_in}
 use Rattle.p9_frame.proofs.Moving.{held-shifts, call-shifts}
 use Rattle.p9_frame.proofs.Making.{blocks-same, all-at}
 use Rattle.p9_frame.proofs.Placing.{are-placed, is-frame, frame-some, frame-bound, taken-is}

@@ -1,5 +1,5 @@
 -- Starts of blocks, and the blocks that are made.
-use Rattle.std.proofs.Common.{ℕ, zero, suc, ◌+◌, ◌≡◌, ◌≤◌, ◌<◌, Bool, true, false, Option, Some, None, refl, sym, ap, ◌∙◌, subst, arith, List, [], ◌∷◌, ◌++◌, length, slice_get, slice_index, get_or, map, drop, All, ◌⊎◌, inl, inr, append_assoc, length-append}
+use Rattle.std.proofs.Common.{ℕ, zero, suc, ◌+◌, ◌≡◌, ◌≤◌, ◌<◌, true, false, Option, Some, refl, sym, ap, ◌∙◌, subst, arith, List, [], ◌∷◌, ◌++◌, length, slice_get, slice_index, get_or, map, drop, All, ◌⊎◌, inl, inr, append_assoc, length-append}
 use Rattle.std.proofs.lemmas.List.{append-nil}
 use Rattle.std.proofs.Math.ListN.{drop_of_length-le}
 use Rattle.std.proofs.lemmas.Option.{slice_get_within, get_or_from_slice_get}
@@ -8,12 +8,12 @@ use Rattle.p9_abs.specs.declared.instructions.Operand.TheVariants.{Reg, Const, A
 use Rattle.p9_abs.specs.declared.instructions.Abs.{Abs}
 use Rattle.p9_abs.specs.declared.instructions.AFunction.{AFunction}
 use Rattle.p9_abs.specs.declared.regions.Region.{Region}
-use Rattle.p9_abs.specs.Automatics.{IsOperandOf, IsInstructionOf}
+use Rattle.p9_abs.specs.Automatics.{IsOperandOf}
 use Rattle.p9_abs.specs.Regions.{home_at}
-use Rattle.p9_abs.specs.Framed.{Shift, Plan, instruction, start_of, home_or_memory, framed_operand, shifts_code, blocks}
+use Rattle.p9_abs.specs.Framed.{Plan, instruction, start_of, home_or_memory, framed_operand, shifts_code, blocks}
 use Rattle.p9_homes.specs.Tables.{home_in}
 use Rattle.p9_frame.specs.Plans.{held, at_call, plan_of}
-use Rattle.p9_frame.specs.Emitted.{moves_of, operand_in, framed_in, block_in, blocks_in}
+use Rattle.p9_frame.specs.Emitted.{operand_in, framed_in, block_in, blocks_in}
 use Rattle.p9_frame.proofs.Offsets.{drop-item}
 
 pub framed-made : (F : Operand → Operand) (a b : Abs) (list : List Operand) → b ≡ a → list ≡ map F b.operands → instruction b.op list ≡ instruction a.op (map F a.operands)

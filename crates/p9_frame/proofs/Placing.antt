@@ -1,5 +1,5 @@
 -- The automatics are placed in the frame.
-use Rattle.std.proofs.Common.{ℕ, zero, suc, ◌+◌, ◌%◌, ◌==◌, ◌||◌, ◌≡◌, ◌≢◌, ◌⊎◌, inl, inr, ◌≤◌, ◌<◌, max, Bool, true, false, not, Option, Some, None, refl, sym, ap, ◌∙◌, subst, arith, List, [], ◌∷◌, length, slice_get, slice_index, map, if◌then◌else◌}
+use Rattle.std.proofs.Common.{ℕ, zero, suc, ◌+◌, ◌%◌, ◌==◌, ◌||◌, ◌≡◌, ◌≢◌, ◌⊎◌, inl, inr, ◌≤◌, max, true, false, not, Some, None, ap, ◌∙◌, arith, List, [], ◌∷◌, slice_get, slice_index, map, if◌then◌else◌}
 use Rattle.std.specs.List.{list_any}
 use Rattle.std.proofs.lemmas.Bool.Decides.{eqb_tells}
 use Rattle.std.proofs.lemmas.List.{length-map}
@@ -7,10 +7,10 @@ use Rattle.p9_abs.specs.declared.instructions.Abs.{Abs}
 use Rattle.p9_abs.specs.declared.instructions.AFunction.{AFunction}
 use Rattle.p9_abs.specs.declared.instructions.TextDef.{TextDef}
 use Rattle.p9_abs.specs.Forms.{decoded}
-use Rattle.p9_abs.specs.Automatics.{form_at, holds_of, call_at, calls_in, reached}
+use Rattle.p9_abs.specs.Automatics.{holds_of, calls_in}
 use Rattle.p9_abs.specs.Validity.{IsFrame}
 use Rattle.p9_abs.specs.Runs.{taken_by}
-use Rattle.p9_abs.specs.OneCall.{names_word, UsesWord, AreDisjoint, ArePlaced, size_at}
+use Rattle.p9_abs.specs.OneCall.{UsesWord, ArePlaced}
 use Rattle.p9_frame.specs.Sizes.{rounded, greatest_named, first_offset, offsets_from, end_from, stated_sum}
 use Rattle.p9_frame.proofs.Offsets.{offsets-length, offset-facts, offset-order, first-fourfold, first-above, end-fourfold, end-bound, named-bound}
 

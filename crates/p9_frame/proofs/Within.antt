@@ -1,5 +1,5 @@
 -- The points of regions are instructions of the code.
-use Rattle.std.proofs.Common.{ℕ, ◌+◌, ◌==◌, ◌&&◌, ◌||◌, ◌≡◌, inl, inr, ◌<◌, nat_lt, Bool, true, Option, Some, None, option_and_then, refl, sym, ap, ◌∙◌, subst, arith, List, [], ◌∷◌, length, slice_get, All}
+use Rattle.std.proofs.Common.{ℕ, ◌+◌, ◌==◌, ◌&&◌, ◌||◌, ◌≡◌, inl, inr, ◌<◌, nat_lt, Bool, true, Option, Some, None, option_and_then, refl, sym, ap, ◌∙◌, arith, List, [], ◌∷◌, length, slice_get, All}
 use Rattle.std.proofs.lemmas.Bool.{false≢true, and_parts}
 use Rattle.std.proofs.lemmas.Option.{slice_get_within}
 use Rattle.p9_abs.specs.declared.instructions.Abs.{Abs}

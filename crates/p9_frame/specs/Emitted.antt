@@ -1,9 +1,8 @@
 -- The code that is made by a table of homes, offsets of automatics and starts of blocks.
-use Rattle.std.specs.Prelude.{ℕ, ◌+◌, Bool, true, false, Option, List, [], ◌∷◌, ◌++◌, map, slice_index, if◌then◌else◌}
+use Rattle.std.specs.Prelude.{ℕ, ◌+◌, Bool, true, false, Option, List, [], ◌∷◌, ◌++◌, map, slice_index}
 use Rattle.p9_abs.specs.declared.instructions.Operand.{Operand}
 use Rattle.p9_abs.specs.declared.instructions.Operand.TheVariants.{Reg, Const, AddrSB, AddrFP, AddrSP, MemSB, MemFP, MemSP, MemReg, Label, Func, Hi, Lo, Auto, AutoAddr}
 use Rattle.p9_abs.specs.declared.instructions.Abs.{Abs}
-use Rattle.p9_abs.specs.Automatics.{call_at}
 use Rattle.p9_abs.specs.Framed.{Shift, instruction, move_of_size, shift_operands, home_or_memory, from_entry}
 use Rattle.p9_homes.specs.Tables.{home_in}
 use Rattle.p9_frame.specs.Plans.{held, at_call}

@@ -1,12 +1,12 @@
 -- The home that a table gives is that of the automatic's region.
-use Rattle.std.proofs.Common.{ℕ, zero, suc, ◌+◌, ◌-◌, ◌==◌, ◌&&◌, ◌||◌, ◌≡◌, ◌≢◌, ◌⊎◌, inl, inr, ◌≤◌, ◌<◌, Bool, true, false, Option, Some, None, refl, sym, ap, ◌∙◌, subst, arith, List, [], ◌∷◌, length, slice_get, slice_index, slice_index_or, All, AllPairs, Contains, IfSome, if◌then◌else◌}
+use Rattle.std.proofs.Common.{ℕ, zero, suc, ◌+◌, ◌-◌, ◌==◌, ◌&&◌, ◌||◌, ◌≡◌, ◌≢◌, ◌⊎◌, inl, inr, ◌≤◌, ◌<◌, Bool, true, false, Option, Some, None, refl, sym, ap, ◌∙◌, subst, arith, List, [], ◌∷◌, length, slice_get, slice_index, slice_index_or, AllPairs, Contains, IfSome, if◌then◌else◌}
 use Rattle.std.proofs.lemmas.Bool.{false≢true, and_parts, or_cases, eqb-true}
 use Rattle.std.proofs.lemmas.Bool.Decides.{eqb_tells}
 use Rattle.std.proofs.lemmas.Option.{slice_get_within, get_or_from_slice_get}
 use Rattle.p9_abs.specs.declared.instructions.AFunction.{AFunction}
 use Rattle.p9_abs.specs.declared.regions.Region.{Region}
 use Rattle.p9_abs.specs.Regions.{IsHome, IsRegion, AreRegions, AreHomes, AreJoined, ComesBefore, has, home_at}
-use Rattle.p9_homes.specs.Tables.{cell, IsAt, IsTable, is_it, home_below, home_in}
+use Rattle.p9_homes.specs.Tables.{cell, IsTable, is_it, home_below, home_in}
 use Rattle.p9_homes.proofs.Tabling.{all-get}
 
 -- Membership

@@ -1,6 +1,6 @@
 -- The table of what homes hold: at each instruction a cell for each of R9 to R20, with the automatic
 -- that the home holds there (`cell`, `IsTable`), and the home of an automatic by the table (`home_in`).
-use Rattle.std.specs.Prelude.{ℕ, zero, suc, ◌+◌, ◌*◌, ◌==◌, ◌≡◌, ◌⊎◌, ◌<◌, Bool, true, false, Option, Some, None, List, length, slice_get, slice_index_or, All, Contains, if◌then◌else◌}
+use Rattle.std.specs.Prelude.{ℕ, zero, suc, ◌+◌, ◌*◌, ◌==◌, ◌≡◌, ◌⊎◌, ◌<◌, Bool, false, Option, Some, None, List, length, slice_get, slice_index_or, All, Contains, if◌then◌else◌}
 use Rattle.p9_abs.specs.declared.regions.Region.{Region}
 
 abbrev pub cell : List (Option ℕ) → ℕ → ℕ → Option ℕ

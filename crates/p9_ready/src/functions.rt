@@ -5,6 +5,7 @@ ghost use Rattle.p9_abs.specs.Validity.{EndsWell};
 ghost use Rattle.p9_abs.specs.Automatics.{IsInstructionOf, IsCode};
 ghost use Rattle.p9_frame.specs.Plans.{IsPlain};
 ghost use Rattle.p9_frame.specs.Sizes.{stated_sum};
+ghost use Rattle.p9_ready.specs.Written.{IsPlainInstruction};
 
 use crate::operands::{is_instruction, is_plain};
 use p9_abs::{AFunction, Abs, Op};
@@ -34,10 +35,16 @@ fn are_instructions(autos: usize, count: usize, code: &[Abs]) -> bool
     code.iter().all(|a| is_instruction(autos, count, a))
 }
 
+fn all_plain(code: &[Abs]) -> bool
+    ensures { IsTrue result ↔ All IsPlainInstruction code.now }
+{
+    code.iter().all(|a| is_plain(a))
+}
+
 fn are_plain(code: &[Abs]) -> bool
     ensures { IsTrue result ↔ IsPlain code.now }
 {
-    code.iter().all(|a| is_plain(a))
+    all_plain(code)
 }
 
 fn is_code(f: &AFunction) -> bool

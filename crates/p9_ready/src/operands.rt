@@ -4,7 +4,7 @@ ghost use Rattle.p9_abs.specs.Forms.{IsForm};
 ghost use Rattle.p9_abs.specs.Validity.{IsRegister, writes_last, IsWritable};
 ghost use Rattle.p9_abs.specs.Automatics.{IsOperandOf, IsInstructionOf};
 ghost use Rattle.p9_frame.specs.Plans.{NamesNoHome};
-ghost use Rattle.p9_ready.specs.Written.{IsWrittenRegister};
+ghost use Rattle.p9_ready.specs.Written.{IsPlainInstruction, IsWrittenRegister};
 
 use p9_abs::{Abs, Op, Operand, decoded};
 
@@ -59,7 +59,7 @@ fn is_no_system_call(op: Op) -> bool
 
 /// Whether the instruction names no home and is no system call.
 pub(crate) fn is_plain(a: &Abs) -> bool
-    ensures { IsTrue result ↔ ((a.now.op ≢ Op.Syscall) × All NamesNoHome a.now.operands) }
+    ensures { IsTrue result ↔ IsPlainInstruction a.now }
 {
     is_no_system_call(a.op) && name_no_home(&a.operands.list)
 }

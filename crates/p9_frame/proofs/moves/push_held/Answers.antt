@@ -1,4 +1,4 @@
-use Rattle.std.proofs.Common.{arith, ap, ◌∙◌, ◌++◌}
+use Rattle.std.proofs.Common.{ap, ◌∙◌, ◌++◌}
 use Rattle.p9_frame.specs.Plans.{kept_for, shift_of}
 use Rattle.p9_frame.specs.Emitted.{moves_of}
 use Rattle.p9_frame.proofs.Moving.{moves-first, moves-more}

@@ -1,4 +1,4 @@
-use Rattle.std.proofs.Common.{arith, true, ap, sym, ◌∙◌, ◌+◌, ◌++◌, length, subst}
+use Rattle.std.proofs.Common.{true, ap, ◌∙◌, ◌+◌, ◌++◌}
 use Rattle.p9_frame.specs.Sizes.{offsets_from, end_from}
 use Rattle.p9_frame.specs.Plans.{held}
 use Rattle.p9_frame.specs.Emitted.{moves_of, blocks_in}

@@ -1,4 +1,4 @@
-use Rattle.std.proofs.Common.{ap, sym, ◌∙◌, length, subst}
+use Rattle.std.proofs.Common.{ap, ◌∙◌, length}
 use Rattle.p9_abs.specs.declared.instructions.AFunction.{AFunction}
 use Rattle.p9_frame.proofs.Within.{regions-within}
 use Rattle.p9_frame.proofs.Framing.{made-framed, made-bound, room-along}

@@ -1,4 +1,4 @@
-use Rattle.std.proofs.Common.{sym, ap, ◌∙◌, ◌+◌, Option, Some, if◌then◌else◌, ℕ}
+use Rattle.std.proofs.Common.{ap, ◌∙◌, ◌+◌, Some, if◌then◌else◌}
 use Rattle.p9_homes.specs.Tables.{is_it}
 use Rattle.p9_homes.proofs.Tabling.{home-more, home-first}
 use Rattle.p9_homes.proofs.holders.home_of.Goals as goal

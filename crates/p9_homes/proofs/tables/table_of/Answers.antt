@@ -1,6 +1,5 @@
 use Rattle.std.proofs.Common.{arith, ◌∙◌, sym, subst, length, ap}
-use Rattle.p9_abs.specs.Regions.{AreHomes}
-use Rattle.p9_homes.specs.Tables.{AreWithin, IsTable}
+use Rattle.p9_homes.specs.Tables.{AreWithin}
 use Rattle.p9_homes.proofs.Tabling.{table-start, taken-back, homes-along, table-along}
 use Rattle.p9_homes.proofs.tables.table_of.Goals as goal
 
