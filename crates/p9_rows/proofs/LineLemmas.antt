@@ -1,5 +1,5 @@
 -- Lines, cut from the front.
-use Rattle.std.proofs.Common.{suc, ◌≡◌, ℕ, ◌+◌, cond, Bool, true, false, List, [], ◌∷◌, take, drop, position, Option, Some, None, refl, sym, ap, subst, ◌∙◌, arith}
+use Rattle.std.proofs.Common.{suc, ◌≡◌, ℕ, ◌+◌, cond, Bool, true, false, List, [], ◌∷◌, take, drop, position, Some, None, refl, sym, ap, subst, ◌∙◌, arith}
 use Rattle.std.specs.List.{position_from}
 use Rattle.std.proofs.lemmas.Iterator.Adapters.{position_from-zero}
 use Rattle.p9_statement.specs.declared.lexemes.Lexeme.{Lexeme}

@@ -1,5 +1,5 @@
 -- The tokens of a line, as the grammar of statements sees them.
-use Rattle.std.specs.Prelude.{ℕ, ◌==◌, nat_le, Bool, true, false, ◌&&◌, ◌||◌, not, List, [], ◌∷◌, length, if◌then◌else◌}
+use Rattle.std.specs.Prelude.{ℕ, ◌==◌, nat_le, Bool, ◌&&◌, not, List, length, if◌then◌else◌}
 use Rattle.std.specs.List.{list_all}
 use Rattle.p9_lex.specs.declared.token.TokenKind.{TokenKind}
 use Rattle.p9_lex.specs.declared.token.TokenKind.TheVariants as kinds

@@ -2,12 +2,11 @@
 use Rattle.std.specs.Prelude.{ℕ, ◌+◌, ◌-◌, ◌%◌, ◌^◌, nat_le, Bool, true, false, List, [], ◌∷◌, take, drop, position, Option, Some, None, option_map, option_and_then, if◌then◌else◌}
 use Rattle.p9_abs.specs.declared.instructions.Op.{Op}
 use Rattle.p9_abs.specs.declared.instructions.Op.TheVariants.{Beq, Bne, Bgez, Bgtz, Blez, Bltz, Jmp, Jal}
-use Rattle.p9_statement.specs.declared.words.Base.{Base}
 use Rattle.p9_statement.specs.declared.words.Base.TheVariants as bases
 use Rattle.p9_statement.specs.declared.words.Sense.{Sense}
 use Rattle.p9_statement.specs.declared.words.Sense.TheVariants as senses
 use Rattle.p9_statement.specs.declared.lexemes.Lexeme.{Lexeme}
-use Rattle.p9_statement.specs.declared.lexemes.Lexeme.TheVariants.{Word, Number, Character, Open, Close, Comma, Plus, Minus, Less, Greater, Dollar}
+use Rattle.p9_statement.specs.declared.lexemes.Lexeme.TheVariants.{Word, Number, Character, Open, Close, Plus, Minus, Less, Greater, Dollar}
 use Rattle.p9_statement.specs.declared.operands.SymbolName.{SymbolName}
 use Rattle.p9_statement.specs.declared.operands.Argument.{Argument}
 use Rattle.p9_statement.specs.declared.operands.Argument.TheVariants.{Register, Constant, Address, ArgumentAddress, FrameAddress, Memory, ArgumentMemory, FrameMemory, RegisterMemory, Label, Function, Hi, Lo}
