@@ -1,0 +1,8 @@
+//! The lines of an assembler file: what each is, and where in which function it stands.
+#![tactic(auto)]
+
+mod rows;
+#[cfg(test)]
+mod tests;
+
+pub use rows::{Place, Row, lexemes_of, rows_of};
