@@ -8,5 +8,7 @@ mod numbers;
 mod operands;
 mod spelling;
 mod validity;
+mod writer;
 
 pub use validity::{all_numbered, all_valid, valid};
+pub use writer::write_obj;
