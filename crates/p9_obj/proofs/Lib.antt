@@ -4,3 +4,4 @@ pub mod Lasts
 pub mod Names
 pub mod Pieces
 pub mod Spelled
+pub mod Reached

@@ -1,2 +1,4 @@
 pub mod Rules
 pub mod Seen
+pub mod Readers
+pub mod Points

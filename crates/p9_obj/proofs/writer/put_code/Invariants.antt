@@ -4,4 +4,4 @@ use Rattle.p9_object.specs.Laws.{bytes_of}
 use Rattle.p9_obj.proofs.writer.put_code.Given as goal
 
 abbrev pub invariant-loop-a : goal.invariant-loop-a
-invariant-loop-a l = l.out ≡ l.fn.out ++ bytes_of (flat_map instruction_fields (take l.a-index l.code))
+invariant-loop-a l = l.out.items ≡ l.fn.out.items ++ bytes_of (flat_map instruction_fields (take l.a-index l.code))

@@ -4,4 +4,4 @@ use Rattle.p9_object.specs.Laws.{bytes_of}
 use Rattle.p9_obj.proofs.writer.put_pieces.Given as goal
 
 abbrev pub invariant-loop-piece : goal.invariant-loop-piece
-invariant-loop-piece l = l.out ≡ l.fn.out ++ bytes_of (flat_map piece_fields (take l.piece-index l.pieces))
+invariant-loop-piece l = l.out.items ≡ l.fn.out.items ++ bytes_of (flat_map piece_fields (take l.piece-index l.pieces))

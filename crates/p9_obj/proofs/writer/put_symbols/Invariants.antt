@@ -4,4 +4,4 @@ use Rattle.p9_object.specs.Laws.{bytes_of}
 use Rattle.p9_obj.proofs.writer.put_symbols.Given as goal
 
 abbrev pub invariant-loop-symbol : goal.invariant-loop-symbol
-invariant-loop-symbol l = l.out ≡ l.fn.out ++ bytes_of (flat_map symbol_fields (take l.symbol-index l.symbols))
+invariant-loop-symbol l = l.out.items ≡ l.fn.out.items ++ bytes_of (flat_map symbol_fields (take l.symbol-index l.symbols))

@@ -1,0 +1,38 @@
+// Whole symbols, and their names.
+ghost use Rattle.std.specs.Prelude.{◌≡◌, ◌++◌, [], ◌∷◌, IfOk};
+
+use crate::places::Found;
+use p9_abs::{Symbol, Symbols};
+use p9_base::NoMemory;
+use std::alloc::Global;
+
+use crate::names::Names;
+
+impl Found {
+    /// No symbols.
+    #[tactic(auto, using(crate::proofs::Knowing::known_first))]
+    pub fn new(alloc: Global) -> Found
+        ensures { result.symbols ≡ [] }
+    {
+        Found {
+            symbols: Symbols {
+                list: Vec::new(alloc),
+            },
+            names: Names::new(alloc),
+        }
+    }
+
+    /// With one symbol more.
+    pub fn with(self, alloc: Global, symbol: Symbol) -> Result<Found, NoMemory>
+        ensures { IfOk result (λ found. found.symbols ≡ self.symbols ++ symbol ∷ []) }
+    {
+        let Found { symbols, mut names } = self;
+        names.note(alloc, &symbol)?;
+        let mut list = symbols.list;
+        list.push(symbol)?;
+        Ok(Found {
+            symbols: Symbols { list },
+            names,
+        })
+    }
+}
