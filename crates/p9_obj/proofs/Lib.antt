@@ -5,3 +5,4 @@ pub mod Names
 pub mod Pieces
 pub mod Spelled
 pub mod Reached
+pub mod Answered
