@@ -25,7 +25,8 @@ fn read_field(alloc: Global, point: Point, bytes: &[u8]) -> Result<Point, ObjFau
     ensures fault { IfErr result (IsFault (pushes (Ok start) bytes.now)) }
 {
     let Point { at, state } = point;
-    match step(alloc, state, &bytes[at..])? {
+    let field = &bytes[at..];
+    match step(alloc, state, field)? {
         Step::Next(state) => Ok(Point {
             at: bytes.len(),
             state,
@@ -45,7 +46,8 @@ fn read_byte(alloc: Global, point: Point, bytes: &[u8]) -> Result<Point, ObjFaul
     match width(&point.state) {
         None => Err(ObjFault::BadObject(point.at)),
         Some(size) => {
-            if bytes.len() - point.at == size {
+            let pending = bytes.len() - point.at;
+            if pending == size {
                 read_field(alloc, point, bytes)
             } else {
                 Ok(point)

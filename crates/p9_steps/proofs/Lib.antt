@@ -1,2 +1,2 @@
 pub mod Knowing
-pub mod Pieces
+pub mod Room

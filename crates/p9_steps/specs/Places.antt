@@ -12,6 +12,9 @@ use Rattle.p9_steps.specs.declared.places.PieceTurn.TheVariants as of_piece
 use Rattle.p9_steps.specs.declared.places.Kind as kinds
 use Rattle.p9_steps.specs.declared.places.Kind.TheVariants as of_kind
 use Rattle.p9_steps.specs.declared.places.Head as heads
+use Rattle.p9_steps.specs.declared.places.CodePart as code_parts
+use Rattle.p9_steps.specs.declared.places.DataPart as data_parts
+use Rattle.p9_steps.specs.declared.places.SymbolsPart as symbols_parts
 use Rattle.p9_steps.specs.declared.places.SymbolPlace as symbols
 use Rattle.p9_steps.specs.declared.places.SymbolPlace.TheVariants as symbol
 use Rattle.p9_steps.specs.declared.places.SymbolTurn as symbol_turns
@@ -43,6 +46,14 @@ kind of_kind.Common = machine.CommonKind
 abbrev pub head : heads.Head → machine.Head
 head h = record { local = h.local; kind = kind h.kind; name = h.name; sig = h.sig }
 
+-- among instructions, and among pieces of data
+
+abbrev pub code_place : code_parts.CodePart → machine.SymbolPlace
+code_place part = machine.InCode (head part.head) part.frame part.total part.before (instruction_place part.place)
+
+abbrev pub data_place : data_parts.DataPart → machine.SymbolPlace
+data_place part = machine.InPieces (head part.head) part.total part.before (piece_place part.place)
+
 abbrev pub symbol_place : symbols.SymbolPlace → machine.SymbolPlace
 symbol_place symbol.Binding = machine.AtBinding
 symbol_place (symbol.Kind local) = machine.AtKind local
@@ -52,9 +63,9 @@ symbol_place (symbol.SignatureLength local k name) = machine.AtSignatureLength l
 symbol_place (symbol.Signature local k name n) = machine.AtSignature local (kind k) name n
 symbol_place (symbol.Frame h) = machine.AtFrame (head h)
 symbol_place (symbol.Total h frame) = machine.AtTotal (head h) frame
-symbol_place (symbol.Code part) = machine.InCode (head part.head) part.frame part.total part.before (instruction_place part.place)
+symbol_place (symbol.Code part) = code_place part
 symbol_place (symbol.Pieces h) = machine.AtPieces (head h)
-symbol_place (symbol.Data part) = machine.InPieces (head part.head) part.total part.before (piece_place part.place)
+symbol_place (symbol.Data part) = data_place part
 symbol_place (symbol.Size h) = machine.AtSize (head h)
 
 abbrev pub symbol_turn : symbol_turns.SymbolTurn → machine.Turn machine.SymbolPlace Symbol
@@ -62,11 +73,14 @@ symbol_turn of_symbol.Bad = machine.Bad
 symbol_turn (of_symbol.Stay place) = machine.Stay (symbol_place place)
 symbol_turn (of_symbol.Whole s) = machine.Whole s
 
+abbrev pub symbols_state : symbols_parts.SymbolsPart → machine.State
+symbols_state part = machine.InSymbols part.count part.found.symbols (symbol_place part.place)
+
 abbrev pub state : states.State → machine.State
 state at.Magic = machine.AtMagic
 state at.Version = machine.AtVersion
 state at.Count = machine.AtCount
-state (at.InSymbols part) = machine.InSymbols part.count part.found.symbols (symbol_place part.place)
+state (at.InSymbols part) = symbols_state part
 state (at.Done found) = machine.Done found
 
 abbrev pub next_state : nexts.Step → Result machine.State machine.Break

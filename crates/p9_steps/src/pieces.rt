@@ -79,7 +79,7 @@ fn raw(alloc: Global, field: &[u8]) -> Result<DataPiece, NoMemory>
 
 /// What the bytes of a field make of the place in the piece behind those, with so many pieces to
 /// come behind it.
-#[tactic(auto, using(crate::proofs::Pieces::room_is, crate::proofs::Pieces::same_number))]
+#[tactic(auto, using(crate::proofs::Room::room_is, crate::proofs::Room::same_number))]
 pub(crate) fn piece_step(
     alloc: Global,
     symbols: u32,

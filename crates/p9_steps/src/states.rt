@@ -3,8 +3,7 @@ ghost use Rattle.std.specs.Prelude.{◌≡◌, length, Some, IfOk};
 ghost use Rattle.p9_object.specs.Fields.{Chars, Word};
 ghost use Rattle.p9_object.specs.Bytes.{width_bytes, symbol_width};
 ghost use Rattle.p9_object.specs.Machine.{step, behind_symbol, Whole, AtMagic, AtVersion, AtCount};
-ghost use Rattle.p9_steps.specs.declared.places.State.TheVariants.{InSymbols};
-ghost use Rattle.p9_steps.specs.Places.{symbol_place, symbol_turn, state, next_state, state_read, wanted};
+ghost use Rattle.p9_steps.specs.Places.{symbol_place, symbol_turn, symbols_state, state, next_state, state_read, wanted};
 
 use crate::places::{Found, State, Step, SymbolPlace, SymbolTurn, SymbolsPart};
 use crate::symbols::symbol_step;
@@ -97,7 +96,7 @@ fn behind_symbol(
 fn symbols_step(alloc: Global, part: SymbolsPart, field: &[u8]) -> Result<Step, NoMemory>
     requires { length field.now ≡ width_bytes (symbol_width (symbol_place part.place)) }
     ensures { IfOk result (λ next.
-        next_state next ≡ state_read (state (InSymbols part)) field.now) }
+        next_state next ≡ state_read (symbols_state part) field.now) }
 {
     let SymbolsPart {
         count,

@@ -5,8 +5,7 @@ ghost use Rattle.p9_object.specs.Fields.{Word};
 ghost use Rattle.p9_object.specs.Bytes.{width_bytes, piece_width, symbol_width, instruction_width};
 ghost use Rattle.p9_object.specs.Machine.{symbol_step, behind_instruction, behind_piece, Whole, AtTotal, AtPieces};
 ghost use Rattle.p9_instr.specs.Places.{instruction_place, instruction_turn};
-ghost use Rattle.p9_steps.specs.declared.places.SymbolPlace.TheVariants.{Code, Data};
-ghost use Rattle.p9_steps.specs.Places.{head, piece_place, piece_turn, symbol_place, symbol_turn, symbol_read};
+ghost use Rattle.p9_steps.specs.Places.{head, piece_place, piece_turn, code_place, data_place, symbol_place, symbol_turn, symbol_read};
 
 use crate::heads::{
     binding_step, frame_step, kind_step, name_length_step, name_step, signature_length_step,
@@ -111,7 +110,7 @@ fn code_step(
 ) -> Result<SymbolTurn, NoMemory>
     requires { length field.now ≡ width_bytes (instruction_width (instruction_place part.place)) }
     ensures { IfOk result (λ turn.
-        symbol_turn turn ≡ symbol_read symbols [] (symbol_place (Code part)) field.now) }
+        symbol_turn turn ≡ symbol_read symbols [] (code_place part) field.now) }
 {
     let CodePart {
         head,
@@ -208,7 +207,7 @@ fn data_step(
 ) -> Result<SymbolTurn, NoMemory>
     requires { length field.now ≡ width_bytes (piece_width (piece_place part.place)) }
     ensures { IfOk result (λ turn.
-        symbol_turn turn ≡ symbol_read symbols [] (symbol_place (Data part)) field.now) }
+        symbol_turn turn ≡ symbol_read symbols [] (data_place part) field.now) }
 {
     let DataPart {
         head,

@@ -1,5 +1,5 @@
 use Rattle.std.proofs.Common.{sym, ◌∙◌}
-use Rattle.p9_steps.proofs.Pieces.{ends_last}
+use Rattle.p9_steps.proofs.Room.{ends_last}
 use Rattle.p9_steps.proofs.pieces.ends_raw.Goals as goal
 
 pub returns-in-Some : goal.returns-in-Some
