@@ -4,5 +4,3 @@ pub mod Lasts
 pub mod Names
 pub mod Pieces
 pub mod Spelled
-pub mod Reached
-pub mod Answered

@@ -1,4 +1,2 @@
 pub mod Rules
 pub mod Seen
-pub mod Readers
-pub mod Points

@@ -3,8 +3,8 @@ use Rattle.std.specs.Prelude.{◌≡◌, ◌≤◌, ℕ, List, length, drop, Opt
 use Rattle.p9_object.specs.Bytes as bytes
 use Rattle.p9_object.specs.Bytes.{start, pushes}
 use Rattle.p9_steps.specs.Places.{state}
-use Rattle.p9_obj.specs.declared.fault.ObjFault.{ObjFault}
-use Rattle.p9_obj.specs.declared.reading.Point.{Point}
+use Rattle.p9_reader.specs.declared.fault.ObjFault.{ObjFault}
+use Rattle.p9_reader.specs.declared.reading.Point.{Point}
 
 -- the bytes behind those of whole fields wait
 abbrev pub point_in : List ℕ → Point → bytes.Point

@@ -11,8 +11,8 @@ use Rattle.p9_object.proofs.Widths.{IsLive}
 use Rattle.p9_steps.specs.Places.{state, state_read, next_state, wanted}
 use Rattle.p9_steps.specs.declared.places.State as states
 use Rattle.p9_steps.specs.declared.places.Step.TheVariants as next
-use Rattle.p9_obj.specs.declared.reading.Point as points
-use Rattle.p9_obj.specs.Points.{Reaches, point_in}
+use Rattle.p9_reader.specs.declared.reading.Point as points
+use Rattle.p9_reader.specs.Points.{Reaches, point_in}
 
 pushed : (before : List ℕ) (b at : ℕ) (s : State) → at ≤ length before → pushes (Ok start) before ≡ Ok (record { at = at; state = s; pending = drop at before }) → pushes (Ok start) (before ++ b ∷ []) ≡ with_pending at s (drop at (before ++ b ∷ []))
 pushed before b at s h e =

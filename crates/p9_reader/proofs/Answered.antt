@@ -10,11 +10,11 @@ use Rattle.p9_object.specs.Bytes.{Point, Fault, start, pushes, module_at, ended,
 use Rattle.p9_object.specs.Bytes as bytes
 use Rattle.p9_object.proofs.Reading.{pushes_append, reads_what_is_spelled, reads_only_spellings, breaks_at_first, tells_versions}
 use Rattle.p9_steps.specs.Places.{state}
-use Rattle.p9_obj.specs.declared.fault.ObjFault.{ObjFault}
-use Rattle.p9_obj.specs.declared.fault.ObjFault.TheVariants.{BadObject, Version, Memory}
-use Rattle.p9_obj.specs.declared.reading.Point as points
-use Rattle.p9_obj.specs.Points.{Reaches}
-use Rattle.p9_obj.specs.Readers.{IsFault, answer_of, TellsVersion}
+use Rattle.p9_reader.specs.declared.fault.ObjFault.{ObjFault}
+use Rattle.p9_reader.specs.declared.fault.ObjFault.TheVariants.{BadObject, Version, Memory}
+use Rattle.p9_reader.specs.declared.reading.Point as points
+use Rattle.p9_reader.specs.Points.{Reaches}
+use Rattle.p9_reader.specs.Readers.{IsFault, answer_of, TellsVersion}
 
 -- More bytes
 

@@ -1,6 +1,6 @@
 use Rattle.std.proofs.Common.{sym, arith}
-use Rattle.p9_obj.proofs.Reached.{within_whole, follows_object, waits_on}
-use Rattle.p9_obj.proofs.reading.read_byte.Goals as goal
+use Rattle.p9_reader.proofs.Reached.{within_whole, follows_object, waits_on}
+use Rattle.p9_reader.proofs.reading.read_byte.Goals as goal
 
 pub overflow_sub-pending : goal.overflow_sub-pending
 overflow_sub-pending c = omega (arith, within_whole c.args.bytes.now c.args.point c.requires.some c.requires.before)

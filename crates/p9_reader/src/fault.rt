@@ -15,7 +15,7 @@ pub enum ObjFault {
 
 impl From<NoMemory> for ObjFault {
     ghost use Rattle.std.specs.Prelude.{◌≡◌};
-    ghost use Rattle.p9_obj.specs.declared.fault.ObjFault.TheVariants.{Memory};
+    ghost use Rattle.p9_reader.specs.declared.fault.ObjFault.TheVariants.{Memory};
 
     ghost from_gives = { λ _ fault. fault ≡ Memory };
 

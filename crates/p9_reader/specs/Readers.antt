@@ -5,8 +5,8 @@ use Rattle.p9_abs.specs.declared.modules.AModule.{AModule}
 use Rattle.p9_object.specs.Fields.{magic, version}
 use Rattle.p9_object.specs.Bytes as bytes
 use Rattle.p9_object.specs.Bytes.{Fault, start, pushes}
-use Rattle.p9_obj.specs.declared.fault.ObjFault.{ObjFault}
-use Rattle.p9_obj.specs.declared.fault.ObjFault.TheVariants as fault
+use Rattle.p9_reader.specs.declared.fault.ObjFault.{ObjFault}
+use Rattle.p9_reader.specs.declared.fault.ObjFault.TheVariants as fault
 
 -- the bytes that it was given, and the fault that it keeps
 pub record Reader : Type 0 where

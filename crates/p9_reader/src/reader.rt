@@ -4,11 +4,11 @@ ghost use Rattle.p9_abs.specs.declared.modules.AModule.{AModule};
 ghost use Rattle.p9_object.specs.Fields.{spelling};
 ghost use Rattle.p9_object.specs.Bytes.{start, pushes, module_at, reading};
 ghost use Rattle.p9_object.specs.Laws.{IsObject, Breaks};
-ghost use Rattle.p9_obj.specs.declared.fault.ObjFault.TheVariants.{BadObject, Version, Memory};
+ghost use Rattle.p9_reader.specs.declared.fault.ObjFault.TheVariants.{BadObject, Version, Memory};
 ghost use Rattle.p9_steps.specs.Places.{state};
-ghost use Rattle.p9_obj.specs.declared.fault.ObjFault.{ObjFault};
-ghost use Rattle.p9_obj.specs.Points.{Reaches};
-ghost use Rattle.p9_obj.specs.Readers.{IsFault, GoesOn, answer_of, TellsVersion};
+ghost use Rattle.p9_reader.specs.declared.fault.ObjFault.{ObjFault};
+ghost use Rattle.p9_reader.specs.Points.{Reaches};
+ghost use Rattle.p9_reader.specs.Readers.{IsFault, GoesOn, answer_of, TellsVersion};
 
 use crate::fault::ObjFault;
 use crate::reading::{Point, read_on};
@@ -29,11 +29,11 @@ pub struct ObjReader {
 }
 
 impl Model for ObjReader {
-    ghost use Rattle.p9_obj.specs.Readers.{Reader};
+    ghost use Rattle.p9_reader.specs.Readers.{Reader};
 
     ghost Value = { Reader };
 
-    ghost use Rattle.p9_obj.specs.Points.{IsReading};
+    ghost use Rattle.p9_reader.specs.Points.{IsReading};
 
     ghost view = { λ r. record { given = r.given.items; fault = r.fault } };
 

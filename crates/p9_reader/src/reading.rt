@@ -2,8 +2,8 @@
 ghost use Rattle.std.specs.Prelude.{◌≡◌, ◌-◌, ◌<◌, ◌≤◌, length, take, drop, Ok, Some, IfOk, IfErr};
 ghost use Rattle.p9_object.specs.Bytes.{start, pushes};
 ghost use Rattle.p9_steps.specs.Places.{state, wanted};
-ghost use Rattle.p9_obj.specs.Readers.{IsFault};
-ghost use Rattle.p9_obj.specs.Points.{Reaches};
+ghost use Rattle.p9_reader.specs.Readers.{IsFault};
+ghost use Rattle.p9_reader.specs.Points.{Reaches};
 
 use crate::fault::ObjFault;
 use p9_steps::{State, Step, step, width};
