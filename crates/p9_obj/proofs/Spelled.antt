@@ -28,16 +28,16 @@ signature_spelled (b ∷ bs) = ap (λ (z : List ℕ). word_bytes (length (b ∷ 
 
 -- a symbol's fields are put one behind the other
 
-six_parts : (old half name sig body : List ℕ) (b k : ℕ) → (((((old ++ b ∷ []) ++ k ∷ []) ++ half) ++ name) ++ sig) ++ body ≡ old ++ b ∷ k ∷ (half ++ (name ++ (sig ++ body)))
+six_parts : (old half name sig body : List ℕ) (b k : ℕ) → ((((old ++ b ∷ []) ++ k ∷ []) ++ (half ++ name)) ++ sig) ++ body ≡ old ++ b ∷ k ∷ (half ++ (name ++ (sig ++ body)))
 six_parts old half name sig body b k = simp append_assoc
 
-pub symbol_put : (s : Symbol) (b k : ℕ) (old o1 o2 o3 o4 o5 o6 : List ℕ) → b ≡ binding_number s.local → k ≡ kind_number s.body → o1 ≡ old ++ b ∷ [] → o2 ≡ o1 ++ k ∷ [] → o3 ≡ o2 ++ half_bytes (length s.name) → o4 ≡ o3 ++ s.name → o5 ≡ o4 ++ bytes_of (signature_fields s.sig) → o6 ≡ o5 ++ bytes_of (body_fields s.body) → o6 ≡ old ++ bytes_of (symbol_fields s)
-symbol_put s b k old o1 o2 o3 o4 o5 o6 eb ek e1 e2 e3 e4 e5 e6 =
+pub symbol_put : (s : Symbol) (b k : ℕ) (old o1 o2 o3 o4 o5 : List ℕ) → b ≡ binding_number s.local → k ≡ kind_number s.body → o1 ≡ old ++ b ∷ [] → o2 ≡ o1 ++ k ∷ [] → o3 ≡ o2 ++ (half_bytes (length s.name) ++ s.name) → o4 ≡ o3 ++ bytes_of (signature_fields s.sig) → o5 ≡ o4 ++ bytes_of (body_fields s.body) → o5 ≡ old ++ bytes_of (symbol_fields s)
+symbol_put s b k old o1 o2 o3 o4 o5 eb ek e1 e2 e3 e4 e5 =
     let half : List ℕ = half_bytes (length s.name) in
     let sig : List ℕ = bytes_of (signature_fields s.sig) in
     let body : List ℕ = bytes_of (body_fields s.body) in
-    e6
-    ∙ ap (λ (x : List ℕ). x ++ body) (e5 ∙ ap (λ (x : List ℕ). x ++ sig) (e4 ∙ ap (λ (x : List ℕ). x ++ s.name) (e3 ∙ ap (λ (x : List ℕ). x ++ half) (e2 ∙ ap (λ (x : List ℕ). x ++ k ∷ []) e1))))
+    e5
+    ∙ ap (λ (x : List ℕ). x ++ body) (e4 ∙ ap (λ (x : List ℕ). x ++ sig) (e3 ∙ ap (λ (x : List ℕ). x ++ (half ++ s.name)) (e2 ∙ ap (λ (x : List ℕ). x ++ k ∷ []) e1)))
     ∙ six_parts old half s.name sig body b k
     ∙ ap (λ (x : ℕ). old ++ x ∷ k ∷ (half ++ (s.name ++ (sig ++ body)))) eb
     ∙ ap (λ (x : ℕ). old ++ binding_number s.local ∷ x ∷ (half ++ (s.name ++ (sig ++ body)))) ek
@@ -45,15 +45,15 @@ symbol_put s b k old o1 o2 o3 o4 o5 o6 eb ek e1 e2 e3 e4 e5 e6 =
 
 -- a module's fields are put one behind the other
 
-four_parts : (a b c d : List ℕ) → ((([] ++ a) ++ b) ++ c) ++ d ≡ a ++ (b ++ (c ++ d))
+four_parts : (a b c d : List ℕ) → (([] ++ a) ++ b) ++ (c ++ d) ≡ a ++ (b ++ (c ++ d))
 four_parts a b c d = simp append_assoc
 
-pub module_put : (m : AModule) (first o0 o1 o2 o3 o4 : List ℕ) → first ≡ magic → o0 ≡ [] → o1 ≡ o0 ++ first → o2 ≡ o1 ++ word_bytes 1 → o3 ≡ o2 ++ word_bytes (length m.symbols) → o4 ≡ o3 ++ bytes_of (flat_map symbol_fields m.symbols) → o4 ≡ spelling m
-module_put m first o0 o1 o2 o3 o4 ef e0 e1 e2 e3 e4 =
+pub module_put : (m : AModule) (first o0 o1 o2 o3 : List ℕ) → first ≡ magic → o0 ≡ [] → o1 ≡ o0 ++ first → o2 ≡ o1 ++ word_bytes 1 → o3 ≡ o2 ++ (word_bytes (length m.symbols) ++ bytes_of (flat_map symbol_fields m.symbols)) → o3 ≡ spelling m
+module_put m first o0 o1 o2 o3 ef e0 e1 e2 e3 =
     let count : List ℕ = word_bytes (length m.symbols) in
     let rest : List ℕ = bytes_of (flat_map symbol_fields m.symbols) in
-    e4
-    ∙ ap (λ (x : List ℕ). x ++ rest) (e3 ∙ ap (λ (x : List ℕ). x ++ count) (e2 ∙ ap (λ (x : List ℕ). x ++ word_bytes 1) (e1 ∙ ap (λ (x : List ℕ). x ++ first) e0)))
+    e3
+    ∙ ap (λ (x : List ℕ). x ++ (count ++ rest)) (e2 ∙ ap (λ (x : List ℕ). x ++ word_bytes 1) (e1 ∙ ap (λ (x : List ℕ). x ++ first) e0))
     ∙ four_parts first (word_bytes 1) count rest
     ∙ ap (λ (x : List ℕ). x ++ (word_bytes 1 ++ (count ++ rest))) ef
 

@@ -59,7 +59,8 @@ fn a_sum_is_written(rt: HostRuntime) -> Result<(), Fail> {
     let m = function(alloc, code)?;
     assert!(rt; valid(alloc, &m)?);
     let bytes = write_obj(alloc, &m)?;
-    let object = b"v9o\n\0\0\0\x01\0\0\0\x01\0\x02\0\x01f\0\0\0\0\0\0\0\0\0\0\0\x02\x06\x02\0\0\0\x01\x01\x02\x01\x02\x1f";
+    let object =
+        b"v9o\n\0\0\0\x01\0\0\0\x01\0\x02\0\x01f\0\0\0\0\0\0\0\0\0\0\0\x02\x06\x02\0\0\0\x01\x01\x02\x01\x02\x1f";
     assert_eq!(rt; bytes.list.as_slice(), object.as_slice());
     Ok(())
 }

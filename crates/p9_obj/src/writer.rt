@@ -7,11 +7,12 @@ ghost use Rattle.p9_object.specs.Fields.{half_bytes, operand_fields, instruction
 ghost use Rattle.p9_object.specs.Bytes.{reading};
 ghost use Rattle.p9_object.specs.Laws.{bytes_of, Fits};
 
-use p9_abs::{AModule, Abs, Body, DataPiece, Op, Operand, Symbol, TextDef};
-use p9_base::{Bytes, NoMemory};
+use p9_abs::{AModule, Abs, Body, DataPiece, Op, Operand, Symbol, Symbols};
+use p9_base::{Bytes, Name, NoMemory};
 use std::alloc::Global;
 
 const MAGIC: &[u8] = b"v9o\n";
+
 const VERSION: usize = 1;
 
 fn put_byte(out: &mut Vec<u8>, n: u8) -> Result<(), NoMemory>
@@ -188,11 +189,30 @@ fn put_pieces(out: &mut Vec<u8>, pieces: &[DataPiece]) -> Result<(), NoMemory>
     Ok(())
 }
 
-fn put_signature(out: &mut Vec<u8>, sig: &[u8]) -> Result<(), NoMemory>
+fn put_name_bytes(out: &mut Vec<u8>, name: &[u8]) -> Result<(), NoMemory>
+    ensures { OnOk result (out.new.items ≡ out.old.items ++ (half_bytes (length name.now) ++ name.now)) }
+{
+    put_half(out, name.len())?;
+    put_bytes(out, name)
+}
+
+fn put_name(out: &mut Vec<u8>, name: &Name) -> Result<(), NoMemory>
+    ensures { OnOk result (out.new.items ≡ out.old.items ++ (half_bytes (length name.now) ++ name.now)) }
+{
+    put_name_bytes(out, &name.list)
+}
+
+fn put_signature_bytes(out: &mut Vec<u8>, sig: &[u8]) -> Result<(), NoMemory>
     ensures { OnOk result (out.new.items ≡ out.old.items ++ bytes_of (signature_fields sig.now)) }
 {
     put_word(out, sig.len())?;
     put_bytes(out, sig)
+}
+
+fn put_signature(out: &mut Vec<u8>, sig: &Bytes) -> Result<(), NoMemory>
+    ensures { OnOk result (out.new.items ≡ out.old.items ++ bytes_of (signature_fields sig.now)) }
+{
+    put_signature_bytes(out, &sig.list)
 }
 
 fn binding_number(local: bool) -> u8
@@ -213,14 +233,13 @@ fn kind_number(body: &Body) -> u8
     }
 }
 
-fn put_function(out: &mut Vec<u8>, def: &TextDef) -> Result<(), NoMemory>
+fn put_function(out: &mut Vec<u8>, frame: u32, code: &[Abs]) -> Result<(), NoMemory>
     ensures { OnOk result (out.new.items ≡ out.old.items
-        ++ (word_bytes def.now.frame
-        ++ (word_bytes (length def.now.code) ++ bytes_of (flat_map instruction_fields def.now.code)))) }
+        ++ (word_bytes frame ++ (word_bytes (length code.now) ++ bytes_of (flat_map instruction_fields code.now)))) }
 {
-    put_word(out, def.frame as usize)?;
-    put_word(out, def.code.list.len())?;
-    put_code(out, &def.code.list)
+    put_word(out, frame as usize)?;
+    put_word(out, code.len())?;
+    put_code(out, code)
 }
 
 fn put_data(out: &mut Vec<u8>, pieces: &[DataPiece]) -> Result<(), NoMemory>
@@ -236,7 +255,7 @@ fn put_body(out: &mut Vec<u8>, body: &Body) -> Result<(), NoMemory>
 {
     match body {
         Body::Declared | Body::Used => Ok(()),
-        Body::Text(def) => put_function(out, def),
+        Body::Text(def) => put_function(out, def.frame, &def.code.list),
         Body::Data(pieces) => put_data(out, &pieces.list),
         Body::Common(size) => put_word(out, *size as usize),
     }
@@ -247,9 +266,8 @@ fn put_symbol(out: &mut Vec<u8>, symbol: &Symbol) -> Result<(), NoMemory>
 {
     put_byte(out, binding_number(symbol.local))?;
     put_byte(out, kind_number(&symbol.body))?;
-    put_half(out, symbol.name.list.len())?;
-    put_bytes(out, &symbol.name.list)?;
-    put_signature(out, &symbol.sig.list)?;
+    put_name(out, &symbol.name)?;
+    put_signature(out, &symbol.sig)?;
     put_body(out, &symbol.body)
 }
 
@@ -262,6 +280,21 @@ fn put_symbols(out: &mut Vec<u8>, symbols: &[Symbol]) -> Result<(), NoMemory>
     Ok(())
 }
 
+fn put_counted_symbols(out: &mut Vec<u8>, symbols: &[Symbol]) -> Result<(), NoMemory>
+    ensures { OnOk result (out.new.items ≡ out.old.items
+        ++ (word_bytes (length symbols.now) ++ bytes_of (flat_map symbol_fields symbols.now))) }
+{
+    put_word(out, symbols.len())?;
+    put_symbols(out, symbols)
+}
+
+fn put_module(out: &mut Vec<u8>, symbols: &Symbols) -> Result<(), NoMemory>
+    ensures { OnOk result (out.new.items ≡ out.old.items
+        ++ (word_bytes (length symbols.now) ++ bytes_of (flat_map symbol_fields symbols.now))) }
+{
+    put_counted_symbols(out, &symbols.list)
+}
+
 /// The bytes of the module's object.
 pub fn write_obj(alloc: Global, m: &AModule) -> Result<Bytes, NoMemory>
     requires { IsValid m.now }
@@ -271,7 +304,6 @@ pub fn write_obj(alloc: Global, m: &AModule) -> Result<Bytes, NoMemory>
     let mut list = Vec::new(alloc);
     put_bytes(&mut list, MAGIC)?;
     put_word(&mut list, VERSION)?;
-    put_word(&mut list, m.symbols.list.len())?;
-    put_symbols(&mut list, &m.symbols.list)?;
+    put_module(&mut list, &m.symbols)?;
     Ok(Bytes { list })
 }

@@ -1,24 +1,22 @@
 // Whole symbols, and their names.
 ghost use Rattle.std.specs.Prelude.{◌≡◌, ◌++◌, [], ◌∷◌, IfOk};
 
+use crate::names::Names;
 use crate::places::Found;
 use p9_abs::{Symbol, Symbols};
 use p9_base::NoMemory;
 use std::alloc::Global;
 
-use crate::names::Names;
-
 impl Found {
     /// No symbols.
-    #[tactic(auto, using(crate::proofs::Knowing::known_first))]
     pub fn new(alloc: Global) -> Found
         ensures { result.symbols ≡ [] }
     {
+        let list = Vec::new(alloc);
+        let names = Names::new(alloc);
         Found {
-            symbols: Symbols {
-                list: Vec::new(alloc),
-            },
-            names: Names::new(alloc),
+            symbols: Symbols { list },
+            names,
         }
     }
 
