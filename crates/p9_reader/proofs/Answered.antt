@@ -3,6 +3,7 @@ use Rattle.std.proofs.Common.{◌≡◌, ◌⊎◌, ℕ, ◌+◌, ◌-◌, ◌^�
 use Rattle.std.proofs.lemmas.List.{take-append-drop, take_all, length-take-le}
 use Rattle.std.proofs.lemmas.List.Elements.{All-from_get_or}
 use Rattle.std.proofs.lemmas.Grind.{common_steps}
+use Rattle.std.proofs.Math.Seq.{take-append_seam}
 use Rattle.p9_abs.specs.declared.modules.AModule.{AModule}
 use Rattle.p9_object.specs.Fields.{spelling}
 use Rattle.p9_object.specs.Laws.{IsByte, IsObject, Breaks}
@@ -97,3 +98,8 @@ version given r k (inr e) v h = absurd (by (sym e ∙ h))
   where
     by : Err {T = AModule} Memory ≡ Err (Version v) → ⊥
     by g = cc
+
+-- the bytes given before, behind which others were put
+pub reaches_front : (old more given : List ℕ) (n : ℕ) (p : points.Point) → n ≡ length old → given ≡ old ++ more → Reaches old p → Reaches (take n given) p
+reaches_front old more given n p e g r =
+    subst (λ (x : List ℕ). Reaches x p) (sym (ap (λ (k : ℕ). take k given) e ∙ ap (λ (x : List ℕ). take (length old) x) g ∙ take-append_seam old more)) r

@@ -92,18 +92,21 @@ within_whole bytes p some r = omega (arith, r.within, length-take-of bytes)
     length-take-of : (xs : List ℕ) → length (take (length xs - 1) xs) ≤ length xs
     length-take-of xs = omega (arith, ap (λ (x : List ℕ). length x) (take-append-drop (length xs - 1) xs), length-append (take (length xs - 1) xs) (drop (length xs - 1) xs))
 
-pub field_next : (bytes : List ℕ) (p : points.Point) (s : states.State) → 0 < length bytes → Reaches (take (length bytes - 1) bytes) p → wanted (state p.state) ≡ Some (length bytes - p.at) → next_state (next.Next s) ≡ state_read (state p.state) (drop p.at bytes) → Reaches bytes (record { at = length bytes; state = s })
-field_next bytes p s some r e n = record {
+same_field : {r : Result State Break} (p : points.Point) (field bytes : List ℕ) → field ≡ bytes → r ≡ state_read (state p.state) field → state_read (state p.state) bytes ≡ r
+same_field p field bytes f n = sym (n ∙ ap (λ (x : List ℕ). state_read (state p.state) x) f)
+
+pub field_next : (bytes : List ℕ) (p : points.Point) (s : states.State) (field : List ℕ) → field ≡ drop p.at bytes → 0 < length bytes → Reaches (take (length bytes - 1) bytes) p → wanted (state p.state) ≡ Some (length bytes - p.at) → next_state (next.Next s) ≡ state_read (state p.state) field → Reaches bytes (record { at = length bytes; state = s })
+field_next bytes p s field f some r e n = record {
   within = omega arith;
   there =
       field_read bytes p some r e
-      ∙ ap (λ (x : Result State Break). judged p.at (length (drop p.at bytes)) x) (sym n)
+      ∙ ap (λ (x : Result State Break). judged p.at (length (drop p.at bytes)) x) (same_field p field (drop p.at bytes) f n)
       ∙ ap (λ (k : ℕ). Ok (record { at = k; state = state s; pending = [] })) (omega (arith, length-drop p.at bytes, within_whole bytes p some r))
       ∙ ap (λ (x : List ℕ). Ok (record { at = length bytes; state = state s; pending = x })) (sym (drop_of_length-le bytes (omega arith)));
 }
 
-pub field_refused : (bytes : List ℕ) (p : points.Point) → 0 < length bytes → Reaches (take (length bytes - 1) bytes) p → wanted (state p.state) ≡ Some (length bytes - p.at) → next_state next.NoObject ≡ state_read (state p.state) (drop p.at bytes) → pushes (Ok start) bytes ≡ Err (BadObject p.at)
-field_refused bytes p some r e n = field_read bytes p some r e ∙ ap (λ (x : Result State Break). judged p.at (length (drop p.at bytes)) x) (sym n)
+pub field_refused : (bytes : List ℕ) (p : points.Point) (field : List ℕ) → field ≡ drop p.at bytes → 0 < length bytes → Reaches (take (length bytes - 1) bytes) p → wanted (state p.state) ≡ Some (length bytes - p.at) → next_state next.NoObject ≡ state_read (state p.state) field → pushes (Ok start) bytes ≡ Err (BadObject p.at)
+field_refused bytes p field f some r e n = field_read bytes p some r e ∙ ap (λ (x : Result State Break). judged p.at (length (drop p.at bytes)) x) (same_field p field (drop p.at bytes) f n)
 
-pub field_version : (bytes : List ℕ) (p : points.Point) (v : ℕ) → 0 < length bytes → Reaches (take (length bytes - 1) bytes) p → wanted (state p.state) ≡ Some (length bytes - p.at) → next_state (next.OtherVersion v) ≡ state_read (state p.state) (drop p.at bytes) → pushes (Ok start) bytes ≡ Err (Version v)
-field_version bytes p v some r e n = field_read bytes p some r e ∙ ap (λ (x : Result State Break). judged p.at (length (drop p.at bytes)) x) (sym n)
+pub field_version : (bytes : List ℕ) (p : points.Point) (v : ℕ) (field : List ℕ) → field ≡ drop p.at bytes → 0 < length bytes → Reaches (take (length bytes - 1) bytes) p → wanted (state p.state) ≡ Some (length bytes - p.at) → next_state (next.OtherVersion v) ≡ state_read (state p.state) field → pushes (Ok start) bytes ≡ Err (Version v)
+field_version bytes p v field f some r e n = field_read bytes p some r e ∙ ap (λ (x : Result State Break). judged p.at (length (drop p.at bytes)) x) (same_field p field (drop p.at bytes) f n)
