@@ -73,11 +73,7 @@ fn register_step(op: Op, before: Operands, register: u8) -> Result<InstructionTu
     }
 }
 
-fn behind_operand(
-    op: Op,
-    before: Operands,
-    turn: OperandTurn,
-) -> Result<InstructionTurn, NoMemory>
+fn behind_operand(op: Op, before: Operands, turn: OperandTurn) -> Result<InstructionTurn, NoMemory>
     ensures { IfOk result (λ t. instruction_turn t ≡ behind_operand op before (operand_turn turn)) }
 {
     match turn {

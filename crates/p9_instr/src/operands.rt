@@ -60,9 +60,18 @@ fn kind_step(limits: Limits, op: Op, before: &[Operand], kind: u8) -> OperandTur
     let has_frame = limits.frame > 0;
     match kind {
         1 => register_if(may_follow(op, before, Sort::Register)),
-        2 => stay_if(may_follow(op, before, Sort::Constant), OperandPlace::Constant),
-        3 => stay_if(may_follow(op, before, Sort::Address), OperandPlace::AddressSymbol),
-        4 => stay_if(may_follow(op, before, Sort::Address), OperandPlace::ArgumentAddress),
+        2 => stay_if(
+            may_follow(op, before, Sort::Constant),
+            OperandPlace::Constant,
+        ),
+        3 => stay_if(
+            may_follow(op, before, Sort::Address),
+            OperandPlace::AddressSymbol,
+        ),
+        4 => stay_if(
+            may_follow(op, before, Sort::Address),
+            OperandPlace::ArgumentAddress,
+        ),
         5 => stay_if(
             may_follow(op, before, Sort::Address) && has_frame,
             OperandPlace::FrameAddress,
@@ -75,7 +84,10 @@ fn kind_step(limits: Limits, op: Op, before: &[Operand], kind: u8) -> OperandTur
         ),
         9 => stay_if(may_follow(op, before, Sort::Memory), OperandPlace::Base),
         10 => stay_if(may_follow(op, before, Sort::Target), OperandPlace::Label),
-        11 => stay_if(may_follow(op, before, Sort::Function), OperandPlace::Function),
+        11 => stay_if(
+            may_follow(op, before, Sort::Function),
+            OperandPlace::Function,
+        ),
         12 => whole_if(may_follow(op, before, Sort::HiLo), Operand::Hi),
         13 => whole_if(may_follow(op, before, Sort::HiLo), Operand::Lo),
         _ => OperandTurn::Bad,
@@ -129,7 +141,10 @@ pub(crate) fn operand_step(
         }
         OperandPlace::Base => {
             let register = byte(field);
-            stay_if(is_own_register(register), OperandPlace::BaseOffset(register))
+            stay_if(
+                is_own_register(register),
+                OperandPlace::BaseOffset(register),
+            )
         }
         OperandPlace::BaseOffset(register) => {
             OperandTurn::Whole(Operand::MemReg(register, word(field)))

@@ -95,7 +95,10 @@ pub(crate) fn kind_step(local: bool, number: u8) -> SymbolTurn
 {
     match kind_of(number) {
         None => SymbolTurn::Bad,
-        Some(found) => stay_if(!local || defines(found), SymbolPlace::NameLength(local, found)),
+        Some(found) => stay_if(
+            !local || defines(found),
+            SymbolPlace::NameLength(local, found),
+        ),
     }
 }
 

@@ -13,6 +13,7 @@ use p9_instr::word;
 use std::alloc::Global;
 
 const MAGIC: &[u8] = b"v9o\n";
+
 const VERSION: u32 = 1;
 
 fn magic_step(field: &[u8]) -> Step
@@ -51,12 +52,7 @@ fn count_step(alloc: Global, count: u32) -> Step
     }
 }
 
-fn with_symbol(
-    alloc: Global,
-    count: u32,
-    found: Found,
-    symbol: Symbol,
-) -> Result<Step, NoMemory>
+fn with_symbol(alloc: Global, count: u32, found: Found, symbol: Symbol) -> Result<Step, NoMemory>
     ensures { IfOk result (λ next.
         next_state next ≡ behind_symbol count found.symbols (Whole symbol)) }
 {

@@ -17,9 +17,7 @@ use crate::places::{
 };
 use p9_abs::{Abs, Body, Code, DataPiece, Pieces, TextDef};
 use p9_base::NoMemory;
-use p9_instr::{
-    InstructionPlace, InstructionTurn, Limits, byte, half, instruction_step, word,
-};
+use p9_instr::{InstructionPlace, InstructionTurn, Limits, byte, half, instruction_step, word};
 use std::alloc::Global;
 
 // The greatest size of an object.
