@@ -3,3 +3,4 @@ pub mod Fresh
 pub mod Lasts
 pub mod Names
 pub mod Pieces
+pub mod Spelled

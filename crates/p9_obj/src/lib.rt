@@ -1,4 +1,4 @@
-//! Object files. For now only the test whether a module is valid.
+//! Object files: the test whether a module is valid, and a module's bytes.
 #![tactic(auto)]
 
 mod data;
@@ -7,6 +7,10 @@ mod functions;
 mod numbers;
 mod operands;
 mod spelling;
+#[cfg(test)]
+mod tests;
 mod validity;
+mod writer;
 
 pub use validity::{all_numbered, all_valid, valid};
+pub use writer::write_obj;
