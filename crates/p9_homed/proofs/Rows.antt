@@ -1,13 +1,11 @@
 -- The rows of the table, where automatics have homes or stand in the frame.
-use Rattle.std.proofs.Common.{ℕ, zero, suc, ◌+◌, ◌-◌, ◌%◌, ◌^◌, ◌≡◌, ◌<◌, nat_lt, Bool, true, false, Option, Some, None, refl, sym, ap, ◌∙◌, subst, arith, List, [], ◌∷◌, map, slice_index, if◌then◌else◌}
+use Rattle.std.proofs.Common.{ℕ, ◌+◌, ◌≡◌, nat_lt, Bool, true, false, Option, Some, None, refl, ap, ◌∙◌, List, [], ◌∷◌, map, slice_index, if◌then◌else◌}
 use Rattle.std.proofs.lemmas.Option.{none-some}
 use Rattle.p9_abs.specs.declared.instructions.Op.{Op}
 use Rattle.p9_abs.specs.declared.instructions.Op.TheVariants.{MovW, MovH, MovHU, MovB, MovBU, Add, AddU, Sub, SubU, And, Or, Xor, Nor, Sgt, SgtU, Sll, Srl, Sra, Mul, MulU, Div, DivU, Beq, Bne, Bgez, Bgtz, Blez, Bltz, Jmp, Jal, Ret, Syscall}
 use Rattle.p9_abs.specs.declared.instructions.Operand.{Operand}
 use Rattle.p9_abs.specs.declared.instructions.Operand.TheVariants.{Reg, Const, AddrSB, AddrFP, AddrSP, MemSB, MemFP, MemSP, MemReg, Label, Func, Hi, Lo, Auto, AutoAddr}
-use Rattle.p9_abs.specs.declared.instructions.Abs.{Abs}
 use Rattle.p9_abs.specs.declared.regions.Region.{Region}
-use Rattle.p9_abs.specs.declared.forms.Location.{Location}
 use Rattle.p9_abs.specs.declared.forms.Location.TheVariants.{Static, Argument, Frame, Based, Automatic}
 use Rattle.p9_abs.specs.declared.forms.OperandKind.{OperandKind}
 use Rattle.p9_abs.specs.declared.forms.OperandKind.TheVariants.{Register, Constant, Address, Memory, HiLo, Target, Function}
@@ -23,10 +21,10 @@ use Rattle.p9_abs.specs.declared.forms.SignTest.{SignTest}
 use Rattle.p9_abs.specs.declared.forms.SignTest.TheVariants as sign
 use Rattle.p9_abs.specs.declared.forms.Form.{Form}
 use Rattle.p9_abs.specs.declared.forms.Form.TheVariants as forms
-use Rattle.p9_abs.specs.Forms.{operand_kind, word_move, signed_move, unsigned_move, arithmetic, shift, multiply, pair_branch, sign_branch, jump, call, bare, kinds_form, form_of, decoded}
+use Rattle.p9_abs.specs.Forms.{operand_kind, word_move, signed_move, unsigned_move, arithmetic, shift, multiply, pair_branch, sign_branch, jump, call, bare, kinds_form}
 use Rattle.p9_abs.specs.Regions.{home_at}
-use Rattle.p9_abs.specs.Framed.{Plan, start_of, home_or_memory, framed_operand}
-use Rattle.p9_homed.specs.Homed.{Homing, homed_memory, homed_kind, homed_load, homed_store, homed_form, homing_at, framed_instruction, HomedForms}
+use Rattle.p9_abs.specs.Framed.{Plan, home_or_memory, framed_operand}
+use Rattle.p9_homed.specs.Homed.{Homing, homed_memory, homed_kind, homed_load, homed_store, homed_form, homing_at, HomedForms}
 
 -- a row that has these forms before has those that they become
 abbrev Keeps : Homing → (List OperandKind → Option Form) → Type 0

@@ -1,6 +1,5 @@
 -- What a form becomes where automatics have homes or stand in the frame: `homed_form`.
 use Rattle.std.specs.Prelude.{ℕ, ◌+◌, ◌-◌, ◌%◌, ◌^◌, ◌≡◌, Option, Some, None, List, map, slice_index}
-use Rattle.p9_abs.specs.declared.instructions.Operand.{Operand}
 use Rattle.p9_abs.specs.declared.instructions.Abs.{Abs}
 use Rattle.p9_abs.specs.declared.regions.Region.{Region}
 use Rattle.p9_abs.specs.declared.forms.Location.{Location}
