@@ -70,4 +70,15 @@ impl Level {
         names.push(ScopeName { name, is_type })?;
         Ok(Level { names, kinds })
     }
+
+    /// Another level with the same names.
+    pub fn copied(&self, alloc: Global) -> Result<Level, AllocError>
+        ensures { IfOk result (λ copy. copy ≡ self.now) }
+    {
+        let mut copy = Level::new(alloc);
+        for declared in self.names.as_slice() {
+            copy = copy.declared(alloc, declared.name.copied(alloc)?, declared.is_type)?;
+        }
+        Ok(copy)
+    }
 }
