@@ -1,13 +1,11 @@
-// A library with one function.
+//! What a token does to the innermost open node, as the grammar's machine has it: the tables of the
+//! reader of C's trees.
 #![tactic(auto)]
 
-ghost use Rattle.std.specs.Prelude.{◌≡◌};
-ghost use Rattle.p9_tree_moves.specs.Echo.{echo_of};
+mod declarators;
+mod heads;
+mod marks;
+mod moves;
+mod words;
 
-// The `ensures` clause is the contract: what `echo` returns is `echo_of` of its argument, a definition
-// in `specs/Echo.antt`, which a caller's clause can cite too.
-pub fn echo(x: usize) -> usize
-    ensures { result ≡ echo_of x }
-{
-    x
-}
+pub use moves::{After, Begin, Join, Move};

@@ -1,0 +1,33 @@
+-- Tokens of which one is wanted.
+use Rattle.std.specs.Prelude.{Bool, true, false}
+use Rattle.p9_grammar.specs.declared.terminal.Punctuator.TheVariants as mark
+use Rattle.p9_grammar.specs.declared.terminal.Terminal.{Terminal}
+use Rattle.p9_grammar.specs.declared.terminal.Terminal.TheVariants as t
+
+abbrev pub is_comma : Terminal → Bool
+is_comma (t.Mark mark.Comma) = true
+is_comma _ = false
+
+abbrev pub is_open_paren : Terminal → Bool
+is_open_paren (t.Mark mark.OpenParen) = true
+is_open_paren _ = false
+
+abbrev pub is_semicolon : Terminal → Bool
+is_semicolon (t.Mark mark.Semicolon) = true
+is_semicolon _ = false
+
+abbrev pub is_colon : Terminal → Bool
+is_colon (t.Mark mark.Colon) = true
+is_colon _ = false
+
+abbrev pub is_close_brace : Terminal → Bool
+is_close_brace (t.Mark mark.CloseBrace) = true
+is_close_brace _ = false
+
+abbrev pub is_close_bracket : Terminal → Bool
+is_close_bracket (t.Mark mark.CloseBracket) = true
+is_close_bracket _ = false
+
+abbrev pub is_end : Terminal → Bool
+is_end t.End = true
+is_end _ = false
