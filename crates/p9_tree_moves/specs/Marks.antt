@@ -1,5 +1,8 @@
 -- Tokens of which one is wanted.
-use Rattle.std.specs.Prelude.{Bool, true, false}
+use Rattle.std.specs.Prelude.{Bool, true, false, Option, Some, None}
+use Rattle.p9_grammar.specs.declared.terminal.Keyword.TheVariants as key
+use Rattle.p9_grammar.specs.declared.head.Head.{Head}
+use Rattle.p9_grammar.specs.declared.head.Head.TheVariants as head
 use Rattle.p9_grammar.specs.declared.terminal.Punctuator.TheVariants as mark
 use Rattle.p9_grammar.specs.declared.terminal.Terminal.{Terminal}
 use Rattle.p9_grammar.specs.declared.terminal.Terminal.TheVariants as t
@@ -31,3 +34,13 @@ is_close_bracket _ = false
 abbrev pub is_end : Terminal → Bool
 is_end t.End = true
 is_end _ = false
+
+abbrev pub is_open_brace : Terminal → Bool
+is_open_brace (t.Mark mark.OpenBrace) = true
+is_open_brace _ = false
+
+-- the label that begins with a token
+abbrev pub label_of : Terminal → Option Head
+label_of (t.Key key.Case) = Some head.CaseOf
+label_of (t.Key key.Default) = Some head.DefaultEnd
+label_of _ = None

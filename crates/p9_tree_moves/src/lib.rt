@@ -2,10 +2,12 @@
 //! reader of C's trees.
 #![tactic(auto)]
 
+mod begins;
 mod declarators;
 mod heads;
 mod marks;
 mod moves;
 mod words;
 
+pub use begins::{begin, begins_type};
 pub use moves::{After, Begin, Join, Move};

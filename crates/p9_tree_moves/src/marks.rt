@@ -3,7 +3,7 @@ ghost use Rattle.std.specs.Prelude.{◌≡◌, IfOk};
 ghost use Rattle.p9_grammar.specs.declared.head.Head.TheVariants as head;
 ghost use Rattle.p9_grammar.specs.Machine as machine;
 ghost use Rattle.p9_tree_moves.specs.Moves.{move_of};
-ghost use Rattle.p9_tree_moves.specs.Marks.{is_comma, is_open_paren, is_semicolon, is_colon, is_close_brace, is_close_bracket, is_end};
+ghost use Rattle.p9_tree_moves.specs.Marks.{is_comma, is_open_paren, is_open_brace, is_semicolon, is_colon, is_close_brace, is_close_bracket, is_end};
 
 use crate::Move;
 use p9_grammar::{Head, Keyword, Punctuator, Terminal};
@@ -24,6 +24,15 @@ pub fn is_open_paren(token: &Terminal) -> bool
 {
     match token {
         Terminal::Mark(Punctuator::OpenParen) => true,
+        _ => false,
+    }
+}
+
+pub fn is_open_brace(token: &Terminal) -> bool
+    ensures { result ≡ is_open_brace token.now }
+{
+    match token {
+        Terminal::Mark(Punctuator::OpenBrace) => true,
         _ => false,
     }
 }
