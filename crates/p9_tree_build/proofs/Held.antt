@@ -43,7 +43,7 @@ inserted e es k v q true h g =
 inserted e es k v q false h g =
     ap (λ o. cond (bytes_eq q e.0.items) (Some e.1) o) g
     ∙ kept (bytes_eq q e.0.items) (bytes_eq q k.items) (Some v) (Some e.1) (held es q)
-        (λ m n. absurd_bool (sym (bytes_eq-from k.items e.0.items (sym (bytes_eq-to q k.items n) ∙ bytes_eq-to q e.0.items m)) ∙ h))
+    (λ m n. absurd_bool (sym (bytes_eq-from k.items e.0.items (sym (bytes_eq-to q k.items n) ∙ bytes_eq-to q e.0.items m)) ∙ h))
 
 pub held-insert : {Z : Type 0} (es : List (Vec ℕ Z × Bool)) (k : Vec ℕ Z) (v : Bool) (q : List ℕ) →
     held (insert_entry same es k v) q ≡ (if bytes_eq q k.items then Some v else held es q)

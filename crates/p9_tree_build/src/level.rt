@@ -66,7 +66,11 @@ impl Level {
             mut names,
             mut kinds,
         } = self;
-        note(&mut kinds, Vec::from_slice(alloc, name.list.as_slice())?, is_type)?;
+        note(
+            &mut kinds,
+            Vec::from_slice(alloc, name.list.as_slice())?,
+            is_type,
+        )?;
         names.push(ScopeName { name, is_type })?;
         Ok(Level { names, kinds })
     }

@@ -93,11 +93,7 @@ pub fn told_at_end(
         }),
         Kind::Star { volatiles: _ } => Ok(through_star(alloc, row, told)),
         Kind::DeclParens => Ok(told),
-        Kind::Brackets { inner, sized: _ } => Ok(if *inner {
-            told
-        } else {
-            nothing_told(alloc)
-        }),
+        Kind::Brackets { inner, sized: _ } => Ok(if *inner { told } else { nothing_told(alloc) }),
         Kind::Params {
             inner,
             void_word: _,

@@ -1,8 +1,10 @@
 -- Tokens of which one is wanted.
-use Rattle.std.specs.Prelude.{Bool, true, false, Option, Some, None}
+use Rattle.std.specs.Prelude.{Bool, true, false, List, [], ◌∷◌, Option, Some, None}
 use Rattle.p9_grammar.specs.declared.terminal.Keyword.TheVariants as key
 use Rattle.p9_grammar.specs.declared.head.Head.{Head}
 use Rattle.p9_grammar.specs.declared.head.Head.TheVariants as head
+use Rattle.p9_lang.specs.declared.tree.SpecWord.{SpecWord}
+use Rattle.p9_lang.specs.declared.tree.SpecWord.TheVariants as word
 use Rattle.p9_grammar.specs.declared.terminal.Punctuator.TheVariants as mark
 use Rattle.p9_grammar.specs.declared.terminal.Terminal.{Terminal}
 use Rattle.p9_grammar.specs.declared.terminal.Terminal.TheVariants as t
@@ -44,3 +46,12 @@ abbrev pub label_of : Terminal → Option Head
 label_of (t.Key key.Case) = Some head.CaseOf
 label_of (t.Key key.Default) = Some head.DefaultEnd
 label_of _ = None
+
+abbrev pub is_void : SpecWord → Bool
+is_void word.Void = true
+is_void _ = false
+
+-- whether the word `void` is the only one
+abbrev pub is_lone_void : List SpecWord → Bool
+is_lone_void (w ∷ []) = is_void w
+is_lone_void _ = false

@@ -234,11 +234,7 @@ fn begin_body(token: &Terminal) -> Begin
 }
 
 #[tactic(auto, using(crate::proofs::Beginnings::braces_begin, crate::proofs::Beginnings::value_begins))]
-fn begin_initialiser(
-    alloc: Global,
-    scope: &Scope,
-    token: &Terminal,
-) -> Result<Begin, AllocError>
+fn begin_initialiser(alloc: Global, scope: &Scope, token: &Terminal) -> Result<Begin, AllocError>
     ensures { IfOk result (λ b. begin_of b ≡ machine.begin_initialiser scope.now.levels token.now) }
 {
     if is_open_brace(token) {

@@ -57,12 +57,7 @@ pub fn declared_move(
             Ok(Move::Shift(Head::Initialised(context, words, inits)))
         }
         Terminal::Mark(Punctuator::OpenBrace) => Ok(body_move(context, words, inits)),
-        _ => Ok(next_declarator(
-            context,
-            words,
-            pushed(inits, false)?,
-            token,
-        )),
+        _ => Ok(next_declarator(context, words, pushed(inits, false)?, token)),
     }
 }
 

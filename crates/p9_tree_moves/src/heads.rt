@@ -7,8 +7,8 @@ ghost use Rattle.p9_grammar.specs.Scopes.{is_type};
 ghost use Rattle.p9_grammar.specs.Grammar.{Whole};
 ghost use Rattle.p9_tree_moves.specs.Moves.{move_of, may_stand};
 
-use crate::words::{WordShare, has_type, may_stand, pushed, share};
 use crate::Move;
+use crate::words::{WordShare, has_type, may_stand, pushed, share};
 use p9_grammar::{Context, Head, Keyword, Punctuator, Terminal};
 use p9_lang::{Ident, Kind, Spec, SpecWord};
 use p9_tree_build::Scope;
@@ -63,11 +63,7 @@ fn ends_spec(alloc: Global, context: Context, words: Items<SpecWord>, token: &Te
     }
 }
 
-fn word_move(
-    context: Context,
-    words: Items<SpecWord>,
-    word: SpecWord,
-) -> Result<Move, AllocError>
+fn word_move(context: Context, words: Items<SpecWord>, word: SpecWord) -> Result<Move, AllocError>
     ensures { IfOk result (λ m. move_of m ≡ machine.word_move context words word) }
 {
     if may_stand(allows_storage(context), words.as_slice(), share(&word)) {
@@ -80,11 +76,7 @@ fn word_move(
 fn tag_key_move(context: Context, words: Items<SpecWord>, is_union: bool) -> Move
     ensures { move_of result ≡ machine.shift_if (may_stand (machine.allows_storage context) words Whole) (head.TagStart context words is_union) machine.Refused }
 {
-    if may_stand(
-        allows_storage(context),
-        words.as_slice(),
-        WordShare::Whole,
-    ) {
+    if may_stand(allows_storage(context), words.as_slice(), WordShare::Whole) {
         Move::Shift(Head::TagStart(context, words, is_union))
     } else {
         Move::Refused
@@ -94,11 +86,7 @@ fn tag_key_move(context: Context, words: Items<SpecWord>, is_union: bool) -> Mov
 fn enum_key_move(context: Context, words: Items<SpecWord>) -> Move
     ensures { move_of result ≡ machine.shift_if (may_stand (machine.allows_storage context) words Whole) (head.EnumStart context words) machine.Refused }
 {
-    if may_stand(
-        allows_storage(context),
-        words.as_slice(),
-        WordShare::Whole,
-    ) {
+    if may_stand(allows_storage(context), words.as_slice(), WordShare::Whole) {
         Move::Shift(Head::EnumStart(context, words))
     } else {
         Move::Refused
@@ -322,9 +310,7 @@ pub fn members_move(
             };
             Ok(Move::Shift(Head::Spec(context, pushed(words, word)?)))
         }
-        _ => Ok(Move::Opens(Head::Members(
-            context, words, is_union, name, count,
-        ))),
+        _ => Ok(Move::Opens(Head::Members(context, words, is_union, name, count))),
     }
 }
 
@@ -380,9 +366,7 @@ pub fn constants_comma(
         Terminal::Mark(Punctuator::CloseBrace) => Ok(Move::Shift(end_constants(
             context, words, name, count, true,
         )?)),
-        _ => Ok(Move::Opens(Head::ConstantsComma(
-            context, words, name, count,
-        ))),
+        _ => Ok(Move::Opens(Head::ConstantsComma(context, words, name, count))),
     }
 }
 

@@ -1,6 +1,6 @@
 // What a token does to the reader.
 use p9_grammar::Head;
-use p9_lang::Kind;
+use p9_lang::{Ident, Kind};
 
 /// What the innermost open node does with a token: takes it and goes on, takes it and ends, begins a
 /// part with it, ends before it, or refuses it.
@@ -31,12 +31,18 @@ pub enum After {
     Unwanted,
 }
 
-/// What a token makes of the node before it: the first part of one that goes on or of one that is
-/// whole, or a longer one; or nothing.
+/// What a mark makes of the node before it: the first part of one that goes on or of one that is
+/// whole; or nothing.
 #[derive(Drop)]
 pub enum Join {
     Joins(Head),
     Posts(Kind),
-    Lengthens(Kind),
     Apart,
+}
+
+/// What a token makes of the node before it. A text behind a text makes it longer.
+#[derive(Drop)]
+pub enum Joined {
+    Marked(Join),
+    Longer(Ident),
 }
