@@ -8,7 +8,7 @@ mod row;
 mod scope;
 mod told;
 
-pub use frame::{Frame, Read, closed, opened, single, start_of};
+pub use frame::{Body, Frame, Read, closed, opened, single, start_of};
 pub use level::Level;
 pub use pile::Pile;
 pub use row::{Row, Whole};

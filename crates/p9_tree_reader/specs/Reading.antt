@@ -2,15 +2,14 @@
 use Rattle.std.specs.Prelude.{◌≡◌, ℕ, List, [], ◌∷◌, ◌++◌, Bool, Option, Some, None, Result, Ok, Err, ⊤}
 use Rattle.p9_lang.specs.declared.tree.Kind.TheVariants as kind
 use Rattle.p9_grammar.specs.declared.terminal.Terminal.{Terminal}
-use Rattle.p9_grammar.specs.declared.head.Head.TheVariants as head
-use Rattle.p9_grammar.specs.Trees.{Tree, node, none, trees_of}
+use Rattle.p9_grammar.specs.declared.head.Head.{Head}
+use Rattle.p9_grammar.specs.Trees.{Tree, node, none}
 use Rattle.p9_grammar.specs.Scopes.{Scope}
 use Rattle.p9_grammar.specs.Machine as machine
 use Rattle.p9_tree_build.specs.declared.frame.Frame.{Frame}
 use Rattle.p9_tree_build.specs.declared.frame.Read.{Read}
-use Rattle.p9_tree_build.specs.declared.row.Row.{Row}
-use Rattle.p9_tree_build.specs.declared.told.Told.{Told}
-use Rattle.p9_tree_build.specs.Machines.{told_of, frame_of, read_of, stack_of}
+use Rattle.p9_tree_build.specs.declared.frame.Body.{Body}
+use Rattle.p9_tree_build.specs.Machines.{told_of, frame_at, read_of, stack_of}
 use Rattle.p9_tree_reader.specs.declared.reader.Reader.{Reader}
 use Rattle.p9_tree_reader.specs.declared.reader.ReadFault.{ReadFault}
 use Rattle.p9_tree_reader.specs.declared.reader.ReadFault.TheVariants as fault
@@ -44,9 +43,11 @@ abbrev pub KeepsStack : Result (Option Read) ReadFault → List Frame → List F
 KeepsStack (Ok (Some n)) old new = new ≡ old
 KeepsStack _ old new = ⊤
 
--- an open node but for its head, which its move gives
-abbrev pub body_of : ℕ → Row → Told → machine.Frame
-body_of from row told = record { head = head.FileOver; from = from; parts = trees_of row.list; told = told_of told }
+-- a part begins in an open node that has come so far
+abbrev pub opened_by : Head → Body → machine.Stack → Scope → ℕ → Terminal → Option machine.State
+opened_by h b s scope at token =
+    machine.opening (frame_at h b ∷ s) (machine.opens h (told_of b.told) scope) at token
+    (machine.begin (machine.opens h (told_of b.told) scope) (machine.wanted h) token)
 
 -- a text with one more piece
 abbrev pub longer : Tree → (bytes : List ℕ) → Tree
