@@ -3,7 +3,10 @@
 #![tactic(auto)]
 
 mod names;
+mod parts;
 mod reader;
+mod settling;
+mod stepping;
 mod steps;
 
 pub use reader::{ReadFault, Reader};

@@ -25,7 +25,7 @@ fn further(at: u32) -> Result<u32, AllocError>
 
 impl Reader {
     /// Goes on behind the token, with the node that it ends, if it ends one.
-    fn to(&mut self, last: Option<Read>) -> Result<(), ReadFault>
+    pub(crate) fn to(&mut self, last: Option<Read>) -> Result<(), ReadFault>
         ensures { Steps (machine.to (stack_of self.old.stack) self.old.scope.levels self.old.at (last_of last)) result (state_of self.new) }
     {
         self.at = further(self.at)?;
