@@ -58,12 +58,7 @@ pub fn single(alloc: Global, kind: Kind, at: u32) -> Result<Read, AllocError>
 }
 
 /// The node with all its parts, which ends the level of names that it opened.
-pub fn closed(
-    alloc: Global,
-    kind: Kind,
-    body: Body,
-    scope: &mut Scope,
-) -> Result<Read, AllocError>
+pub fn closed(alloc: Global, kind: Kind, body: Body, scope: &mut Scope) -> Result<Read, AllocError>
     ensures node { IfOk result (λ r. read_of r ≡ made kind body.from (trees_of body.row.list) (told_of body.told) scope.old.levels) }
     ensures scope { OnOk result (scope.new.levels ≡ leave kind scope.old.levels) }
 {

@@ -8,5 +8,7 @@ mod reader;
 mod settling;
 mod stepping;
 mod steps;
+#[cfg(test)]
+mod tests;
 
 pub use reader::{ReadFault, Reader};

@@ -147,20 +147,11 @@ impl Reader {
             body,
         })?;
         let words = pushed(Items::new(alloc), SpecWord::Void)?;
-        Ok(opened(
-            alloc,
-            Head::Spec(Context::Param, words),
-            before(self.at),
-        ))
+        Ok(opened(alloc, Head::Spec(Context::Param, words), before(self.at)))
     }
 
     // What stands behind an opening parenthesis shows with the next token.
-    fn decide(
-        &mut self,
-        alloc: Global,
-        frame: Frame,
-        token: &Terminal,
-    ) -> Result<Frame, ReadFault>
+    fn decide(&mut self, alloc: Global, frame: Frame, token: &Terminal) -> Result<Frame, ReadFault>
         ensures { Decides (machine.decide (frame_of frame) (stack_of self.old.stack) self.old.scope.levels self.old.at token.now frame.head) result self.new }
     {
         let Frame { head, body } = frame;
