@@ -1,0 +1,8 @@
+//! The reader of whole files: the one tree of a unit's tokens.
+#![tactic(auto)]
+
+mod fault;
+mod limits;
+mod unit;
+
+pub use fault::ParseFault;
