@@ -6,3 +6,4 @@ mod limits;
 mod unit;
 
 pub use fault::ParseFault;
+pub use unit::parse;

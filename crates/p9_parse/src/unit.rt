@@ -1,5 +1,5 @@
 // The tree of a unit's tokens.
-ghost use Rattle.std.specs.Prelude.{◌≡◌, ◌≤◌, reverse, IfOk, IfSome, IfNone, Some, ⊥};
+ghost use Rattle.std.specs.Prelude.{◌≡◌, ◌≤◌, reverse, IfOk, IfSome, IfNone, Some};
 ghost use Rattle.p9_grammar.specs.Trees.{Trees, trees_of, height_in, nodes_in};
 ghost use Rattle.p9_grammar.specs.Promise.{IsFile, IsRead, file_tokens};
 ghost use Rattle.p9_grammar.specs.Machine.{step};
@@ -15,7 +15,7 @@ use p9_grammar::Head;
 use p9_lang::{Ident, Node, Tree};
 use p9_lex::{Token, Tokens};
 use p9_terminal::terminal;
-use p9_tree_build::Frame;
+use p9_tree_build::{Body, Frame};
 use p9_tree_reader::{ReadFault, Reader};
 use sqlite_items::Items;
 use std::alloc::{AllocError, Global};
@@ -103,6 +103,7 @@ fn is_whole(frame: &Frame) -> bool
     }
 }
 
+#[tactic(auto, using(crate::proofs::Walking::not_alone))]
 fn only_frame(frames: &[Frame]) -> bool
     ensures { result ≡ is_file (stack_of (reverse frames.now)) }
 {
@@ -115,11 +116,16 @@ fn only_frame(frames: &[Frame]) -> bool
 fn items_of(frame: Frame) -> Items<Node>
     ensures { trees_of result ≡ (frame_of frame).parts }
 {
-    frame.body.row.list
+    let Frame { head: _, body } = frame;
+    let Body {
+        from: _,
+        row,
+        told: _,
+    } = body;
+    row.list
 }
 
 // The items of a file that has come to its end.
-#[tactic(auto, using(crate::proofs::Reads::file_read, crate::proofs::Reads::file_unread))]
 fn finish(reader: Reader) -> Option<Items<Node>>
     ensures read { IfSome result (λ items. IsRead (trees_of items) (Some (state_of reader))) }
     ensures unread { IfNone result ((items : Trees) → IsRead items (Some (state_of reader)) → ⊥) }
@@ -133,7 +139,10 @@ fn finish(reader: Reader) -> Option<Items<Node>>
     if !only_frame(stack.as_slice()) {
         return None;
     }
-    stack.pop().map(items_of)
+    match stack.pop() {
+        Some(frame) => Some(items_of(frame)),
+        None => None,
+    }
 }
 
 fn marks(alloc: Global, names: &[Name]) -> Result<Items<Ident>, AllocError>
