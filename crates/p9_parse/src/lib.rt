@@ -3,6 +3,8 @@
 
 mod fault;
 mod limits;
+#[cfg(test)]
+mod tests;
 mod unit;
 
 pub use fault::ParseFault;

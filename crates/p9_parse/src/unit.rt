@@ -21,6 +21,7 @@ use sqlite_items::Items;
 use std::alloc::{AllocError, Global};
 
 const MAX_HEIGHT: u32 = 100;
+
 const MAX_NODES: u32 = 100_000;
 
 fn take(alloc: Global, reader: &mut Reader, token: &Token) -> Result<(), ReadFault>
@@ -48,12 +49,7 @@ fn keep_limits(reader: &Reader) -> Result<(), ParseFault>
     Ok(())
 }
 
-fn read_one(
-    alloc: Global,
-    reader: &mut Reader,
-    token: &Token,
-    place: u32,
-) -> Result<(), ParseFault>
+fn read_one(alloc: Global, reader: &mut Reader, token: &Token, place: u32) -> Result<(), ParseFault>
     ensures { ReadsOne (step (state_of reader.old) (terminal_of token.now.kind)) place result (state_of reader.new) }
 {
     match take(alloc, reader, token) {
