@@ -1,10 +1,10 @@
 -- The tokens of the lexer end in the end.
-use Rattle.std.proofs.Common.{◌≡◌, ℕ, Bool, List, [], ◌∷◌, ◌++◌, refl, ap, ◌∙◌}
+use Rattle.std.proofs.Common.{◌≡◌, ℕ, Bool, true, List, [], ◌∷◌, refl, ap, ◌∙◌}
 use Rattle.p9_lex.specs.declared.token.Dialect.{Dialect}
 use Rattle.p9_lex.specs.declared.token.Token.{Token}
 use Rattle.p9_lex.specs.declared.token.TokenKind.{TokenKind}
 use Rattle.p9_lex.specs.declared.token.TokenKind.TheVariants as kinds
-use Rattle.p9_lex.specs.Made.{AreTokens, IfEnd, IsToken, is_line_end}
+use Rattle.p9_lex.specs.Made.{AreTokens, IfEnd, is_line_end}
 use Rattle.p9_grammar.specs.declared.terminal.Terminal.TheVariants.{End}
 use Rattle.p9_terminal.specs.Terminals.{terminal_of, terminals}
 use Rattle.p9_parse.specs.Units.{EndsInEnd}

@@ -1,6 +1,6 @@
 -- The machine at each token of a unit.
-use Rattle.std.proofs.Common.{◌≡◌, ℕ, suc, ◌+◌, ◌-◌, ◌<◌, ◌≤◌, max, reverse, List, [], ◌∷◌, ◌++◌, length, take, get_or, map, Bool, true, false, Option, Some, None, Ok, Err, refl, sym, ap, subst, ◌∙◌, arith, append_assoc, append-nil}
-use Rattle.std.specs.Prelude.{Result, nat_eq}
+use Rattle.std.proofs.Common.{◌≡◌, ℕ, suc, ◌+◌, ◌-◌, ◌<◌, ◌≤◌, max, reverse, List, [], ◌∷◌, ◌++◌, length, take, get_or, true, false, Option, Some, None, Err, refl, sym, ap, subst, ◌∙◌, arith, append_assoc, append-nil}
+use Rattle.std.specs.Prelude.{nat_eq}
 use Rattle.std.proofs.lemmas.Bool.{and_parts}
 use Rattle.std.proofs.lemmas.Bool.Decides.{nat_tests}
 use Rattle.std.proofs.lemmas.List.{take_more, take_all, map-append, length-reverse}
@@ -23,7 +23,7 @@ use Rattle.p9_prefix.proofs.Growing.{only-grows}
 use Rattle.p9_terminal.specs.Terminals.{terminal_of, terminals}
 use Rattle.p9_parse.specs.declared.fault.ParseFault.{ParseFault}
 use Rattle.p9_parse.specs.declared.fault.ParseFault.TheVariants as fault
-use Rattle.p9_parse.specs.Units.{BreaksAt, AllHigher, AllLarger, Refuses, ReadsOne, IsWithin, HasRead, EndsInEnd, is_over, is_whole, is_file}
+use Rattle.p9_parse.specs.Units.{BreaksAt, AllHigher, AllLarger, Refuses, ReadsOne, IsWithin, EndsInEnd, is_over, is_whole, is_file}
 
 run-none : (ts : List Terminal) → run None ts ≡ None
 run-none [] = refl

@@ -4,7 +4,6 @@ use p9_lex::{Dialect, lex};
 use std::alloc::Global;
 use std::test::Fail;
 
-#[tactic(auto, using(crate::proofs::Lexed::lexed_ends))]
 fn parsed(alloc: Global, text: &[u8]) -> Result<Result<Tree, ParseFault>, Fail> {
     let tokens = lex(alloc, text, Dialect::C)?;
     Ok(parse(alloc, &tokens))

@@ -1,4 +1,4 @@
-use Rattle.std.proofs.Common.{◌≡◌, true, reverse, sym, ap, ◌∙◌}
+use Rattle.std.proofs.Common.{◌≡◌, true, sym, ap, ◌∙◌}
 use Rattle.p9_tree_build.specs.Machines.{frame_of, stack_of}
 use Rattle.p9_tree_reader.specs.Reading.{last_of}
 use Rattle.p9_parse.specs.Units.{is_file}

@@ -1,4 +1,4 @@
-use Rattle.std.proofs.Common.{◌≡◌, ◌∙◌, arith}
+use Rattle.std.proofs.Common.{◌∙◌, arith}
 use Rattle.p9_tree_reader.specs.Reading.{state_of}
 use Rattle.p9_parse.proofs.Walking.{read_step, refused_there}
 use Rattle.p9_parse.proofs.unit.read_all.Goals as goal

@@ -1,4 +1,4 @@
-use Rattle.std.proofs.Common.{◌≡◌, take}
+use Rattle.std.proofs.Common.{take}
 use Rattle.p9_tree_reader.specs.Reading.{state_of}
 use Rattle.p9_parse.specs.Units.{HasRead}
 use Rattle.p9_parse.proofs.unit.read_all.Given as goal
