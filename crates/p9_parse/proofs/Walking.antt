@@ -66,9 +66,9 @@ refused_there A ts i k x st new (fault.Syntax j) p q h r w =
     let z : j ≡ i = w.0 ∙ p in
     (omega arith, subst (BreaksAt ts) (sym z) (breaks ts i st r (read_step ts i x st q h r ∙ w.1)))
 refused_there A ts i k x st new (fault.TooDeep limit item) p q h r w =
-    (w.1, (i + 1, begun ts (i + 1) new (read_step ts i x st q h r ∙ w.0), higher ts (i + 1) limit new (read_step ts i x st q h r ∙ w.0) (omega (arith, w.1, w.2))))
+    (w.1, (i + 1, begun ts (i + 1) new (read_step ts i x st q h r ∙ w.0), higher ts (i + 1) limit new (read_step ts i x st q h r ∙ w.0) (omega (arith, w.1, w.2)), (new, read_step ts i x st q h r ∙ w.0, w.3)))
 refused_there A ts i k x st new (fault.TooManyNodes limit item) p q h r w =
-    (w.1, (i + 1, begun ts (i + 1) new (read_step ts i x st q h r ∙ w.0), larger ts (i + 1) limit new (read_step ts i x st q h r ∙ w.0) (omega (arith, w.1, w.2))))
+    (w.1, (i + 1, begun ts (i + 1) new (read_step ts i x st q h r ∙ w.0), larger ts (i + 1) limit new (read_step ts i x st q h r ∙ w.0) (omega (arith, w.1, w.2)), (new, read_step ts i x st q h r ∙ w.0, w.3)))
 refused_there A ts i k x st new fault.Memory p q h r w = tt
 
 -- A file that has come to its end.

@@ -2,9 +2,10 @@
 ghost use Rattle.std.specs.Prelude.{◌≡◌, ◌+◌, ◌-◌, reverse, IfOk};
 ghost use Rattle.p9_prefix.specs.Growth.{raised, joined, height_of, size_of, height_so_far, nodes_so_far};
 ghost use Rattle.p9_tree_build.specs.Machines.{stack_of};
+ghost use Rattle.p9_parse.specs.Units.{item_start, last_start};
 ghost use Rattle.p9_tree_reader.specs.Reading.{state_of, last_of};
 
-use p9_tree_build::{Frame, Read};
+use p9_tree_build::{Frame, Read, start_of};
 use p9_tree_reader::Reader;
 use std::alloc::AllocError;
 
@@ -72,13 +73,23 @@ pub fn nodes_so_far(reader: &Reader) -> Result<u32, AllocError>
     Ok(count.saturating_sub(1))
 }
 
-/// The place of the first token of the last item that was begun.
-pub fn item_start(reader: &Reader) -> u32 {
+/// The place of the first token of the item that is open or has just been read.
+#[tactic(auto, using(crate::proofs::Opening::item_below, crate::proofs::Opening::item_alone, crate::proofs::Opening::item_none))]
+pub fn item_start(reader: &Reader) -> u32
+    ensures { result ≡ item_start (state_of reader.now) }
+{
     match reader.stack.as_slice() {
         [_, item, ..] => item.body.from,
-        _ => match &reader.last {
-            Some(read) => read.whole.node.token,
-            None => reader.at,
-        },
+        [_] => last_start(&reader.last, reader.at),
+        [] => reader.at,
+    }
+}
+
+fn last_start(last: &Option<Read>, at: u32) -> u32
+    ensures { result ≡ last_start (last_of last.now) at }
+{
+    match last {
+        Some(read) => start_of(&read.whole.node),
+        None => at,
     }
 }
