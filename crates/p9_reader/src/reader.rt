@@ -1,0 +1,67 @@
+// The reader that is given an object's bytes in pieces.
+use crate::faults::ObjFault;
+use crate::fields::{all_taken, module_at};
+use crate::progress::{Place, Progress};
+use p9_abs::AModule;
+use p9_base::NoMemory;
+use p9_steps::State;
+use std::alloc::Global;
+use std::mem;
+
+// Room for the bytes of a small object.
+const FIRST_ROOM: usize = 1024;
+
+/// A reader of an object whose bytes come in pieces. It judges each field as soon as its last byte is
+/// there, keeps the first fault, and takes no memory by a count that it reads.
+#[derive(Drop)]
+pub struct ObjReader {
+    given: Vec<u8>,
+    progress: Progress,
+}
+
+impl ObjReader {
+    /// A reader that was given nothing.
+    pub fn new(alloc: Global) -> Result<ObjReader, NoMemory> {
+        let given = Vec::with_capacity(alloc, FIRST_ROOM)?;
+        let progress = Progress::Reading(Place {
+            taken: 0,
+            state: State::Magic,
+        });
+        Ok(ObjReader { given, progress })
+    }
+
+    /// Takes the next bytes. After a fault the reader is as if it had not been given them, but for the
+    /// fault, which it keeps: it answers it to any further bytes.
+    pub fn feed(&mut self, alloc: Global, piece: &[u8]) -> Result<(), ObjFault> {
+        match mem::replace(&mut self.progress, Progress::Failed(ObjFault::Memory)) {
+            Progress::Reading(place) => {
+                let before = self.given.len();
+                self.given.extend_from_slice(piece)?;
+                match all_taken(alloc, &self.given, place) {
+                    Ok(place) => {
+                        self.progress = Progress::Reading(place);
+                        Ok(())
+                    }
+                    Err(fault) => {
+                        self.given.truncate(before);
+                        self.progress = Progress::Failed(fault);
+                        Err(fault)
+                    }
+                }
+            }
+            Progress::Failed(fault) => {
+                self.progress = Progress::Failed(fault);
+                Err(fault)
+            }
+        }
+    }
+
+    /// The module of the bytes that were given.
+    pub fn finish(self) -> Result<AModule, ObjFault> {
+        let ObjReader { given, progress } = self;
+        match progress {
+            Progress::Reading(place) => module_at(place.state, given.len()),
+            Progress::Failed(fault) => Err(fault),
+        }
+    }
+}
