@@ -34,7 +34,10 @@ fn what_is_read_is_written_again(rt: HostRuntime) -> Result<(), Fail> {
 fn cut_objects_are_refused_at_their_end(rt: HostRuntime) -> Result<(), Fail> {
     let alloc = rt.alloc();
     for size in 0..RETURN.len() {
-        assert_eq!(rt; refused(alloc, &RETURN[..size]), Some(ObjFault::BadObject(size)));
+        assert_eq!(rt;
+            refused(alloc, &RETURN[..size]),
+            Some(ObjFault::BadObject(size))
+        );
     }
     Ok(())
 }
