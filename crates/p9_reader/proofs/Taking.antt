@@ -1,12 +1,12 @@
 -- Whole fields of bytes, taken one after the other.
-use Rattle.std.proofs.Common.{Fits, w8, get_or, ◌≡◌, ◌⊎◌, inl, inr, ℕ, ◌+◌, ◌-◌, ◌<◌, ◌≤◌, Bool, true, false, List, [], ◌∷◌, ◌++◌, length, take, drop, Option, Some, None, Result, Ok, Err, All, refl, sym, ap, subst, ◌∙◌, arith, length-append, length-drop}
-use Rattle.std.proofs.lemmas.List.{take-append-drop, take-append-le, take_all, append-nil, length-take-le}
+use Rattle.std.proofs.Common.{Fits, w8, get_or, ◌≡◌, ◌⊎◌, inl, inr, ℕ, ◌+◌, ◌-◌, ◌<◌, ◌≤◌, Bool, true, false, List, [], ◌∷◌, ◌++◌, length, take, drop, Some, None, Result, Ok, Err, All, refl, sym, ap, subst, ◌∙◌, arith, length-append, length-drop}
+use Rattle.std.proofs.lemmas.List.{take-append-drop, length-take-le}
 use Rattle.std.proofs.Math.Seq.{take-add}
 use Rattle.std.proofs.lemmas.List.Elements.{All-take, All-from_get_or}
 use Rattle.p9_object.specs.Laws.{IsByte}
 use Rattle.p9_object.specs.Machine.{State, AtMagic, AtVersion, AtCount, InSymbols, Done, Break, step}
-use Rattle.p9_object.specs.Bytes.{width_bytes, width_at, symbol_width, field_of, Fault, Point, start, judged, push, pushes}
-use Rattle.p9_object.proofs.Reading.{pushes_append, waits, judges, Last, last_of, Reads, IsSettled, ReadsOk, reads}
+use Rattle.p9_object.specs.Bytes.{width_bytes, width_at, symbol_width, field_of, Fault, Point, start, judged, pushes}
+use Rattle.p9_object.proofs.Reading.{pushes_append, waits, judges, last_of, IsSettled, ReadsOk, reads}
 use Rattle.p9_steps.specs.Places.{state_read, wanted}
 use Rattle.p9_reader.specs.declared.faults.ObjFault.{ObjFault}
 use Rattle.p9_reader.specs.declared.faults.ObjFault.TheVariants.{BadObject, Memory}

@@ -1,5 +1,5 @@
 -- Bytes of which whole fields were taken.
-use Rattle.std.specs.Prelude.{◌≡◌, ℕ, ◌-◌, ◌<◌, ◌≤◌, Bool, true, false, List, [], length, take, drop, Option, None, Some, Result, Ok, Err}
+use Rattle.std.specs.Prelude.{◌≡◌, ℕ, ◌-◌, ◌<◌, ◌≤◌, Bool, true, false, List, [], length, take, drop, Option, None, Some, Result, Ok}
 use Rattle.p9_object.specs.Machine.{State, AtMagic, AtVersion, AtCount, InSymbols, Done}
 use Rattle.p9_object.specs.Bytes.{Fault, Point, start, pushes}
 use Rattle.p9_steps.specs.Places.{wanted}

@@ -78,9 +78,9 @@ impl ObjReader {
                     }
                 }
             }
-            Progress::Failed(fault) => {
-                self.progress = Progress::Failed(fault);
-                Err(fault)
+            Progress::Failed(kept) => {
+                self.progress = Progress::Failed(kept);
+                Err(kept)
             }
         }
     }

@@ -46,10 +46,14 @@ fn cut_objects_are_refused_at_their_end(rt: HostRuntime) -> Result<(), Fail> {
 fn other_bytes_are_refused(rt: HostRuntime) -> Result<(), Fail> {
     let alloc = rt.alloc();
     let longer = b"v9o\n\0\0\0\x01\0\0\0\x01\0\x02\0\x01f\0\0\0\0\0\0\0\0\0\0\0\x01\x1f\0";
-    let table: [(&[u8], ObjFault); 6] = [
+    let name_twice = b"v9o\n\0\0\0\x01\0\0\0\x02\0\x01\0\x01f\0\0\0\0\0\x01\0\x01f";
+    let raw_twice = b"v9o\n\0\0\0\x01\0\0\0\x01\0\x03\0\x01f\0\0\0\0\0\0\0\x02\0\0\0\0\x04abcd\0";
+    let table: [(&[u8], ObjFault); 8] = [
         (longer, ObjFault::BadObject(30)),
         (b"u9o\n\0\0\0\x01\0\0\0\x01\0\x02", ObjFault::BadObject(0)),
         (b"u", ObjFault::BadObject(1)),
+        (name_twice, ObjFault::BadObject(25)),
+        (raw_twice, ObjFault::BadObject(34)),
         (b"v9o\n\0\0\0\x09\0\0\0\x01\0\x02", ObjFault::Version(9)),
         (b"v9o\n\0\0\0\x09", ObjFault::Version(9)),
         (b"v9o\n\0\0\0\x01\0\0\0\x01\x02", ObjFault::BadObject(12)),
