@@ -4,10 +4,11 @@ use Rattle.p9_abs.specs.declared.modules.AModule.{AModule}
 use Rattle.p9_object.specs.Fields.{spelling}
 use Rattle.p9_object.specs.Laws.{IsByte, IsObject, Breaks}
 use Rattle.p9_object.specs.Bytes as machine
-use Rattle.p9_object.proofs.Reading.{reads_what_is_spelled, reads_only_spellings, breaks_at_first, tells_versions}
+use Rattle.p9_object.proofs.Reading.{pushes_append, reads_what_is_spelled, reads_only_spellings, breaks_at_first, tells_versions}
 use Rattle.p9_reader.specs.declared.faults.ObjFault.{ObjFault}
 use Rattle.p9_reader.specs.declared.faults.ObjFault.TheVariants.{BadObject, Version, Memory}
-use Rattle.p9_reader.specs.Answers.{told, answer_of, answer, stop_of, refusal, HasVersion}
+use Rattle.p9_reader.specs.Answers.{told, answer_of, answer, stop_of, refusal, RefusalsStay, HasVersion}
+use Rattle.p9_reader.proofs.Taking.{stop_goes_on}
 
 -- the answer, but for want of memory
 abbrev pub IsAnswer : List ℕ → Result AModule ObjFault → Type 0
@@ -25,6 +26,11 @@ refused_so (Err g) f e = by cc
   where
     by : told g ≡ f → answer_of (machine.ended (Err g)) ≡ Err f
     by e = ap (λ (x : ObjFault). Err x) e
+
+pub refused_early : RefusalsStay
+refused_early bytes rest f e =
+    refused_so (machine.pushes (Ok machine.start) (bytes ++ rest)) f
+    (ap (λ (r : Result machine.Point machine.Fault). stop_of r) (pushes_append (Ok machine.start) bytes rest) ∙ stop_goes_on (machine.pushes (Ok machine.start) bytes) f rest e)
 
 pub answered_early : (bytes given : List ℕ) (fault : Option ObjFault) (f y : ObjFault) (r : Result AModule ObjFault) → given ≡ [] → fault ≡ None → (fault ≡ None → (f ≡ Memory) ⊎ (refusal (given ++ bytes) ≡ Some f)) → r ≡ Err y → y ≡ f → IsAnswer bytes r
 answered_early bytes given fault f y r g n first e same = by (first n)

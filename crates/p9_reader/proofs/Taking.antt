@@ -87,7 +87,7 @@ next_at taken n next (Ok u) t e = by cc
     by : ◌≡◌ {A = Point} (record { at = taken + n; state = u; pending = [] }) (record { at = next; state = t; pending = [] }) → next ≡ taken + n
     by e = sym (ap (λ (p : Point). p.at) e)
 
-stop_goes_on : (r : Result Point Fault) (f : ObjFault) (rest : List ℕ) → stop_of r ≡ Some f → stop_of (pushes r rest) ≡ Some f
+pub stop_goes_on : (r : Result Point Fault) (f : ObjFault) (rest : List ℕ) → stop_of r ≡ Some f → stop_of (pushes r rest) ≡ Some f
 stop_goes_on (Ok p) f rest e = absurd cc
 stop_goes_on (Err g) f rest e = e
 

@@ -27,6 +27,10 @@ stop_of (Err f) = Some (told f)
 abbrev pub refusal : List ℕ → Option ObjFault
 refusal bytes = stop_of (pushes (Ok start) bytes)
 
+-- what is refused stays so with any bytes behind it
+abbrev pub RefusalsStay : Type 0
+RefusalsStay = (bytes rest : List ℕ) (f : ObjFault) → refusal bytes ≡ Some f → answer (bytes ++ rest) ≡ Err f
+
 -- the version stands behind the magic, and is another
 pub record HasVersion (bytes : List ℕ) (v : ℕ) : Type 0 where
   pub other : v ≢ version

@@ -3,6 +3,7 @@
 
 mod faults;
 mod fields;
+mod laws;
 mod progress;
 mod reader;
 #[cfg(test)]
@@ -10,5 +11,6 @@ mod tests;
 mod whole;
 
 pub use faults::ObjFault;
+pub use laws::refusals_stay;
 pub use reader::ObjReader;
 pub use whole::read_obj;
