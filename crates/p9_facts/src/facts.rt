@@ -1,13 +1,13 @@
 // What the lines of a file say of symbols, functions and bytes.
-ghost use Rattle.std.specs.Prelude.{◌≡◌, ◌<◌, ◌≤◌, ◌+◌, ◌^◌, ℕ, List, length, IfOk, OnOk, Some, None, if◌then◌else◌};
+ghost use Rattle.std.specs.Prelude.{◌≡◌, ◌<◌, ◌≤◌, ◌+◌, ◌^◌, ℕ, List, ◌++◌, length, IfOk, OnOk, Some, None, if◌then◌else◌};
 ghost use Rattle.std.specs.HashMap.{get};
 ghost use Rattle.std.specs.Option.{option_or};
 ghost use Rattle.p9_facts.specs.declared.facts.Fact.{Fact};
-ghost use Rattle.p9_facts.specs.Facts.{same_fact, among, noted, held, definition, signature, use_of, value_of, byte_of, symbol_in, label_facts, argument_facts, arguments_facts, datum_facts, statement_facts, content_facts, first_row};
+ghost use Rattle.p9_facts.specs.Facts.{same_fact, among, noted, held, definition, signature, use_of, value_of, byte_of, symbol_in, symbol_at, used, label_facts, counted, argument_facts, arguments_facts, word_facts, datum_bytes, datum_facts, statement_facts, says, first_row};
 
 use p9_base::NoMemory;
 use p9_rows::{Place, Row};
-use p9_statement::{Argument, Arguments, Datum, Line, Statement, SymbolName};
+use p9_statement::{Argument, Arguments, Datum, Statement, SymbolName};
 use std::alloc::Global;
 use std::collections::HashMap;
 
@@ -91,7 +91,6 @@ pub struct Facts {
 }
 
 // Notes that a row says a fact, if none before it does.
-#[tactic(auto, using(crate::proofs::Noting::note_new, crate::proofs::Noting::note_old))]
 fn note(map: &mut HashMap<Fact, u32>, fact: Fact, row: u32) -> Result<(), NoMemory>
     ensures { OnOk result ((q : Fact) → get same_fact map.new q ≡ noted (get same_fact map.old q) row (same_fact fact q)) }
 {
@@ -125,6 +124,16 @@ pub fn symbol_in(argument: Argument) -> Option<SymbolName>
     }
 }
 
+/// The symbol that a value is the address of.
+pub fn symbol_at(datum: Datum) -> Option<SymbolName>
+    ensures { result ≡ symbol_at datum }
+{
+    match datum {
+        Datum::Address(symbol, _) => Some(symbol),
+        Datum::Byte(_) | Datum::Half(_) | Datum::Word(_) => None,
+    }
+}
+
 fn note_label(
     map: &mut HashMap<Fact, u32>,
     label: Option<u32>,
@@ -139,13 +148,23 @@ fn note_label(
     }
 }
 
-fn note_argument(map: &mut HashMap<Fact, u32>, argument: Argument, row: u32) -> Result<(), NoMemory>
-    ensures { OnOk result ((q : Fact) → get same_fact map.new q ≡ noted (get same_fact map.old q) row (among q (argument_facts argument))) }
+fn note_used(
+    map: &mut HashMap<Fact, u32>,
+    symbol: Option<SymbolName>,
+    row: u32,
+) -> Result<(), NoMemory>
+    ensures { OnOk result ((q : Fact) → get same_fact map.new q ≡ noted (get same_fact map.old q) row (among q (used symbol))) }
 {
-    match symbol_in(argument) {
+    match symbol {
         Some(symbol) => note(map, Fact::use_of(symbol), row),
         None => Ok(()),
     }
+}
+
+fn note_argument(map: &mut HashMap<Fact, u32>, argument: Argument, row: u32) -> Result<(), NoMemory>
+    ensures { OnOk result ((q : Fact) → get same_fact map.new q ≡ noted (get same_fact map.old q) row (among q (argument_facts argument))) }
+{
+    note_used(map, symbol_in(argument), row)
 }
 
 fn note_arguments(map: &mut HashMap<Fact, u32>, given: Arguments, row: u32) -> Result<(), NoMemory>
@@ -167,7 +186,7 @@ fn note_arguments(map: &mut HashMap<Fact, u32>, given: Arguments, row: u32) -> R
 }
 
 fn note_instruction(map: &mut HashMap<Fact, u32>, place: Place, row: u32) -> Result<(), NoMemory>
-    ensures { OnOk result ((q : Fact) → get same_fact map.new q ≡ noted (get same_fact map.old q) row (among q (instruction_facts place))) }
+    ensures { OnOk result ((q : Fact) → get same_fact map.new q ≡ noted (get same_fact map.old q) row (among q (counted place.function place.number))) }
 {
     match place.function {
         Some(function) => {
@@ -185,7 +204,7 @@ fn note_word(
     row: u32,
 ) -> Result<(), NoMemory>
     requires { at < 2 ^ 32 }
-    ensures { OnOk result ((q : Fact) → get same_fact map.new q ≡ noted (get same_fact map.old q) row (among q (bytes_of symbol at 4))) }
+    ensures { OnOk result ((q : Fact) → get same_fact map.new q ≡ noted (get same_fact map.old q) row (among q (word_facts symbol at))) }
 {
     let facts = [
         Fact::byte_of(symbol, at),
@@ -196,6 +215,27 @@ fn note_word(
     note_all(map, &facts, row)
 }
 
+fn note_bytes(
+    map: &mut HashMap<Fact, u32>,
+    symbol: SymbolName,
+    offset: u32,
+    datum: Datum,
+    row: u32,
+) -> Result<(), NoMemory>
+    ensures { OnOk result ((q : Fact) → get same_fact map.new q ≡ noted (get same_fact map.old q) row (among q (datum_bytes symbol offset datum))) }
+{
+    let at = u64::from(offset);
+    match datum {
+        Datum::Byte(_) => note(map, Fact::byte_of(symbol, at), row),
+        Datum::Half(_) => {
+            let facts = [Fact::byte_of(symbol, at), Fact::byte_of(symbol, at + 1)];
+            note_all(map, &facts, row)
+        }
+        Datum::Word(_) | Datum::Address(_, _) => note_word(map, symbol, at, row),
+    }
+}
+
+#[tactic(auto, using(crate::proofs::Noting::on_both))]
 fn note_datum(
     map: &mut HashMap<Fact, u32>,
     symbol: SymbolName,
@@ -205,21 +245,23 @@ fn note_datum(
 ) -> Result<(), NoMemory>
     ensures { OnOk result ((q : Fact) → get same_fact map.new q ≡ noted (get same_fact map.old q) row (among q (datum_facts symbol offset datum))) }
 {
-    let at = u64::from(offset);
-    match datum {
-        Datum::Byte(_) => note(map, Fact::byte_of(symbol, at), row),
-        Datum::Half(_) => {
-            let facts = [Fact::byte_of(symbol, at), Fact::byte_of(symbol, at + 1)];
-            note_all(map, &facts, row)
-        }
-        Datum::Word(_) => note_word(map, symbol, at, row),
-        Datum::Address(other, _) => {
-            note_word(map, symbol, at, row)?;
-            note(map, Fact::use_of(other), row)
-        }
-    }
+    note_bytes(map, symbol, offset, datum, row)?;
+    note_used(map, symbol_at(datum), row)
 }
 
+fn note_operation(
+    map: &mut HashMap<Fact, u32>,
+    place: Place,
+    given: Arguments,
+    row: u32,
+) -> Result<(), NoMemory>
+    ensures { OnOk result ((q : Fact) → get same_fact map.new q ≡ noted (get same_fact map.old q) row (among q (counted place.function place.number ++ arguments_facts given))) }
+{
+    note_instruction(map, place, row)?;
+    note_arguments(map, given, row)
+}
+
+#[tactic(auto, using(crate::proofs::Noting::on_both))]
 fn note_statement(
     map: &mut HashMap<Fact, u32>,
     place: Place,
@@ -237,14 +279,12 @@ fn note_statement(
             note_datum(map, symbol, offset, datum, row)
         }
         Some(Statement::Signature(symbol, _)) => note(map, Fact::signature(symbol), row),
-        Some(Statement::Instruction(_, given)) => {
-            note_instruction(map, place, row)?;
-            note_arguments(map, given, row)
-        }
+        Some(Statement::Instruction(_, given)) => note_operation(map, place, given, row),
     }
 }
 
 // Notes what a row says.
+#[tactic(auto, unfolding(crate::specs::Facts::says))]
 fn note_row(map: &mut HashMap<Fact, u32>, row: &Row, index: u32) -> Result<(), NoMemory>
     ensures { OnOk result ((q : Fact) → get same_fact map.new q ≡ noted (get same_fact map.old q) index (says q row.now)) }
 {

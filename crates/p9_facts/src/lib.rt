@@ -7,5 +7,5 @@ mod names;
 #[cfg(test)]
 mod tests;
 
-pub use facts::{Fact, Facts, symbol_in};
+pub use facts::{Fact, Facts, symbol_at, symbol_in};
 pub use names::Names;
