@@ -21,6 +21,11 @@ pub enum AsmFault {
 }
 
 impl From<NoMemory> for AsmFault {
+    ghost use Rattle.std.specs.Prelude.{◌≡◌};
+    ghost use Rattle.p9_asm.specs.declared.fault.AsmFault.TheVariants.{Memory};
+
+    ghost from_gives = { λ _ fault. fault ≡ Memory };
+
     fn from(_: NoMemory) -> AsmFault {
         AsmFault::Memory
     }

@@ -1,40 +1,53 @@
 // The bytes and addresses of initialised data.
-use crate::code::number_of;
+ghost use Rattle.std.specs.Prelude.{◌≡◌, ◌++◌, [], ◌∷◌, IfOk, OnOk, option_and_then};
+ghost use Rattle.p9_abs.specs.declared.modules.DataPiece.TheVariants.{Address};
+ghost use Rattle.p9_asm.specs.Files.{file_in, statement_at};
+ghost use Rattle.p9_asm.specs.Data.{half_byte, word_byte, cell_of, cell_in, standing, flushed, pieces_from};
+
 use crate::tables::Tables;
 use p9_abs::{DataPiece, Pieces};
 use p9_base::{Bytes, NoMemory};
 use p9_facts::Fact;
-use p9_rows::Row;
-use p9_statement::{Datum, Line, Statement, SymbolName};
+use p9_statement::{Datum, Statement, SymbolName};
 use std::alloc::Global;
 use std::mem;
 
 /// What stands at a place: a byte, the first byte of an address, or a later one.
 #[derive(Clone, Copy)]
-pub(crate) enum Cell {
+pub enum Cell {
     Byte(u8),
     Start(SymbolName, u32),
     Inside,
 }
 
-fn half_byte(value: u32, at: u64) -> u8 {
-    match at {
-        0 => ((value / 256) % 256) as u8,
-        _ => (value % 256) as u8,
+fn half_byte(value: u32, at: u64) -> u8
+    ensures { result ≡ half_byte value at }
+{
+    if at == 0 {
+        ((value / 256) % 256) as u8
+    } else {
+        (value % 256) as u8
     }
 }
 
-fn word_byte(value: u32, at: u64) -> u8 {
-    match at {
-        0 => (value / 16777216) as u8,
-        1 => ((value / 65536) % 256) as u8,
-        2 => ((value / 256) % 256) as u8,
-        _ => (value % 256) as u8,
+fn word_byte(value: u32, at: u64) -> u8
+    ensures { result ≡ word_byte value at }
+{
+    if at == 0 {
+        ((value / 16777216) % 256) as u8
+    } else if at == 1 {
+        ((value / 65536) % 256) as u8
+    } else if at == 2 {
+        ((value / 256) % 256) as u8
+    } else {
+        (value % 256) as u8
     }
 }
 
 // What stands at a place of a value.
-fn cell_of(datum: Datum, at: u64) -> Cell {
+fn cell_of(datum: Datum, at: u64) -> Cell
+    ensures { result ≡ cell_of datum at }
+{
     match datum {
         Datum::Byte(value) => Cell::Byte((value % 256) as u8),
         Datum::Half(value) => Cell::Byte(half_byte(value, at)),
@@ -50,32 +63,53 @@ fn cell_of(datum: Datum, at: u64) -> Cell {
 }
 
 // What a line lets stand at a place of its symbol.
-fn cell_in(content: Option<Line>, place: u64) -> Option<Cell> {
-    match content?.statement? {
-        Statement::Data(_, offset, datum) => {
+fn cell_in(place: u64, statement: Option<Statement>) -> Option<Cell>
+    ensures { result ≡ cell_in place statement }
+{
+    match statement {
+        Some(Statement::Data(_, offset, datum)) => {
             Some(cell_of(datum, place.saturating_sub(u64::from(offset))))
         }
-        Statement::Text(_, _)
-        | Statement::Globl(_, _)
-        | Statement::Signature(_, _)
-        | Statement::Instruction(_, _) => None,
+        _ => None,
     }
 }
 
-fn cell_at(rows: &[Row], index: Option<u32>, place: u64) -> Option<Cell> {
-    cell_in(rows.get(index? as usize)?.content, place)
+fn statement_by(tables: &Tables, row: Option<u32>) -> Option<Statement>
+    ensures { result ≡ option_and_then (statement_at (file_in tables.now)) row }
+{
+    tables.statement_at(row?)
 }
 
 // What stands at a place of the symbol: zero, where no line says.
-fn standing(tables: &Tables, symbol: SymbolName, place: u64) -> Cell {
+#[tactic(auto, unfolding(crate::specs::Data::standing))]
+fn standing(tables: &Tables, symbol: SymbolName, place: u64) -> Cell
+    ensures { result ≡ standing (file_in tables.now) symbol place }
+{
     let row = tables.facts.first(Fact::byte_of(symbol, place));
-    cell_at(&tables.rows, row, place).unwrap_or(Cell::Byte(0))
+    cell_in(place, statement_by(tables, row)).unwrap_or(Cell::Byte(0))
 }
 
-fn push_raw(pieces: &mut Vec<DataPiece>, raw: Vec<u8>) -> Result<(), NoMemory> {
+// Adds the bytes, if there are any.
+fn push_raw(pieces: &mut Vec<DataPiece>, raw: Vec<u8>) -> Result<(), NoMemory>
+    ensures { OnOk result (pieces.new.items ≡ pieces.old.items ++ flushed raw.items) }
+{
     if !raw.is_empty() {
         pieces.push(DataPiece::Raw(Bytes { list: raw }))?;
     }
+    Ok(())
+}
+
+// Adds the address of a symbol, behind bytes.
+fn push_address(
+    pieces: &mut Vec<DataPiece>,
+    raw: Vec<u8>,
+    symbol: u32,
+    offset: u32,
+) -> Result<(), NoMemory>
+    ensures { OnOk result (pieces.new.items ≡ pieces.old.items ++ flushed raw.items ++ Address symbol offset ∷ []) }
+{
+    push_raw(pieces, raw)?;
+    pieces.push(DataPiece::Address { symbol, offset })?;
     Ok(())
 }
 
@@ -85,21 +119,22 @@ pub(crate) fn pieces_of(
     tables: &Tables,
     symbol: SymbolName,
     size: u32,
-) -> Result<Pieces, NoMemory> {
+) -> Result<Pieces, NoMemory>
+    ensures { IfOk result (λ pieces. pieces ≡ pieces_from (file_in tables.now) symbol 0 size) }
+{
     let mut list = Vec::new(alloc);
     let mut raw = Vec::new(alloc);
-    for place in 0..size {
+    let mut place = 0u32;
+    while place < size {
         match standing(tables, symbol, u64::from(place)) {
             Cell::Byte(byte) => raw.push(byte)?,
             Cell::Start(other, offset) => {
-                push_raw(&mut list, mem::replace(&mut raw, Vec::new(alloc)))?;
-                list.push(DataPiece::Address {
-                    symbol: number_of(tables, other),
-                    offset,
-                })?;
+                let before = mem::replace(&mut raw, Vec::new(alloc));
+                push_address(&mut list, before, tables.number_of(other), offset)?;
             }
             Cell::Inside => {}
         }
+        place += 1;
     }
     push_raw(&mut list, raw)?;
     Ok(Pieces { list })

@@ -1,87 +1,137 @@
 // Breaks of a line that later lines, or the end of the file, show.
-use crate::breaks::{Break, end_of, is_undefined, size_at};
+ghost use Rattle.std.specs.Prelude.{◌≡◌, ◌+◌, ◌||◌, ◌&&◌, ◌<◌, ◌^◌, not, option_to_list};
+ghost use Rattle.std.specs.List.{list_any};
+ghost use Rattle.p9_facts.specs.Facts.{symbol_in, symbol_at};
+ghost use Rattle.p9_facts.specs.Names.{names_in, names_of_statement};
+ghost use Rattle.p9_asm.specs.Files.{file_in};
+ghost use Rattle.p9_asm.specs.Breaks.{is_past, is_outside_size, is_outside, is_undefined, may_end, is_unended, names_nothing, label_in, target_in, missing_label, no_label, unfinished_by, unfinished};
+
+use crate::breaks::{Break, end_of, size_at};
+use crate::tables::Tables;
 use p9_abs::Op;
-use p9_facts::{Fact, Facts, symbol_in};
+use p9_facts::{Fact, symbol_at, symbol_in};
 use p9_rows::{Place, Row};
-use p9_statement::{Argument, Arguments, Datum, Line, Statement, SymbolName};
+use p9_statement::{Argument, Arguments, Line, Statement, SymbolName};
 
 // Whether the function has no instruction of that number.
-fn is_past(facts: &Facts, function: Option<u32>, number: u64) -> bool {
+fn is_past(tables: &Tables, function: Option<u32>, number: u64) -> bool
+    ensures { result ≡ is_past (file_in tables.now) function number }
+{
     match function {
-        Some(function) => facts
-            .first(Fact::Instruction { function, number })
-            .is_none(),
+        Some(function) => {
+            let fact = Fact::Instruction { function, number };
+            tables.facts.first(fact).is_none()
+        }
         None => false,
     }
 }
 
-// Whether the place is inside no data of the symbol.
-fn is_outside(facts: &Facts, rows: &[Row], symbol: SymbolName, end: u64) -> bool {
-    match facts.first(Fact::definition(symbol)) {
+fn is_outside_size(size: Option<u32>, end: u64) -> bool
+    ensures { result ≡ is_outside_size size end }
+{
+    match size {
+        Some(size) => u64::from(size) < end,
         None => true,
-        Some(row) => match size_at(rows, row) {
-            None => true,
-            Some(size) => u64::from(size) < end,
-        },
     }
 }
 
-fn names_undefined(facts: &Facts, argument: Argument) -> bool {
-    match symbol_in(argument) {
-        Some(symbol) => is_undefined(facts, symbol),
+// Whether the place is behind all data of the symbol.
+fn is_outside(tables: &Tables, end: u64, defined: Option<u32>) -> bool
+    ensures { result ≡ is_outside (file_in tables.now) end defined }
+{
+    match defined {
+        Some(row) => is_outside_size(size_at(tables, row), end),
+        None => true,
+    }
+}
+
+// Whether the symbol is local to the file and the file doesn't define it.
+fn is_undefined(tables: &Tables, symbol: SymbolName) -> bool
+    ensures { result ≡ is_undefined (file_in tables.now) symbol }
+{
+    symbol.local && tables.facts.first(Fact::definition(symbol)).is_none()
+}
+
+fn is_any_undefined(tables: &Tables, symbol: Option<SymbolName>) -> bool
+    ensures { result ≡ list_any (is_undefined (file_in tables.now)) (option_to_list symbol) }
+{
+    match symbol {
+        Some(symbol) => is_undefined(tables, symbol),
         None => false,
     }
 }
 
-fn are_undefined(facts: &Facts, given: Arguments) -> bool {
+fn is_undefined_in(tables: &Tables, argument: Argument) -> bool
+    ensures { result ≡ list_any (is_undefined (file_in tables.now)) (option_to_list (symbol_in argument)) }
+{
+    is_any_undefined(tables, symbol_in(argument))
+}
+
+#[tactic(auto, using(crate::proofs::Naming::any_append))]
+fn are_undefined(tables: &Tables, given: Arguments) -> bool
+    ensures { result ≡ list_any (is_undefined (file_in tables.now)) (names_in given) }
+{
     match given {
         Arguments::Zero => false,
-        Arguments::One(a) => names_undefined(facts, a),
-        Arguments::Two(a, b) => names_undefined(facts, a) || names_undefined(facts, b),
+        Arguments::One(a) => is_undefined_in(tables, a),
+        Arguments::Two(a, b) => is_undefined_in(tables, a) || is_undefined_in(tables, b),
         Arguments::Three(a, b, c) => {
-            names_undefined(facts, a) || names_undefined(facts, b) || names_undefined(facts, c)
+            is_undefined_in(tables, a) || is_undefined_in(tables, b) || is_undefined_in(tables, c)
         }
     }
 }
 
-fn is_address_undefined(facts: &Facts, datum: Datum) -> bool {
-    match datum {
-        Datum::Address(symbol, _) => is_undefined(facts, symbol),
-        Datum::Byte(_) | Datum::Half(_) | Datum::Word(_) => false,
+fn names_undefined(tables: &Tables, statement: Option<Statement>) -> bool
+    ensures { result ≡ list_any (is_undefined (file_in tables.now)) (names_of_statement statement) }
+{
+    match statement {
+        None => false,
+        Some(Statement::Text(symbol, _)) => is_undefined(tables, symbol),
+        Some(Statement::Globl(symbol, _)) => is_undefined(tables, symbol),
+        Some(Statement::Signature(symbol, _)) => is_undefined(tables, symbol),
+        Some(Statement::Data(symbol, _, datum)) => {
+            is_undefined(tables, symbol) || is_any_undefined(tables, symbol_at(datum))
+        }
+        Some(Statement::Instruction(_, given)) => are_undefined(tables, given),
     }
 }
 
-fn may_end(op: Op) -> bool {
+fn may_end(op: Op) -> bool
+    ensures { result ≡ may_end op }
+{
     match op {
         Op::Ret | Op::Jmp => true,
         _ => false,
     }
 }
 
-// Whether what the statement names or needs is missing.
-fn lacks(
-    facts: &Facts,
-    rows: &[Row],
-    index: u32,
-    place: Place,
-    statement: Option<Statement>,
-) -> bool {
+// Whether the function or the data of the statement end where they may not.
+fn is_unended(tables: &Tables, index: u32, place: Place, statement: Option<Statement>) -> bool
+    ensures { result ≡ is_unended (file_in tables.now) index place statement }
+{
     match statement {
-        None => false,
-        Some(Statement::Text(_, _)) => is_past(facts, Some(index), 0),
-        Some(Statement::Globl(_, _)) | Some(Statement::Signature(_, _)) => false,
+        Some(Statement::Text(_, _)) => is_past(tables, Some(index), 0),
         Some(Statement::Data(symbol, offset, datum)) => {
-            is_outside(facts, rows, symbol, end_of(offset, datum))
-                || is_address_undefined(facts, datum)
+            let defined = tables.facts.first(Fact::definition(symbol));
+            is_outside(tables, end_of(offset, datum), defined)
         }
-        Some(Statement::Instruction(op, given)) => {
-            (is_past(facts, place.function, u64::from(place.number) + 1) && !may_end(op))
-                || are_undefined(facts, given)
+        Some(Statement::Instruction(op, _)) => {
+            is_past(tables, place.function, u64::from(place.number) + 1) && !may_end(op)
         }
+        None | Some(Statement::Globl(_, _)) | Some(Statement::Signature(_, _)) => false,
     }
 }
 
-fn label_of(argument: Argument) -> Option<u32> {
+// Whether the line's label names no instruction.
+fn names_nothing(tables: &Tables, place: Place, label: Option<u32>) -> bool
+    ensures { result ≡ names_nothing (file_in tables.now) place label }
+{
+    label.is_some() && is_past(tables, place.function, u64::from(place.number))
+}
+
+fn label_in(argument: Argument) -> Option<u32>
+    ensures { result ≡ label_in argument }
+{
     match argument {
         Argument::Label(word) => Some(word),
         _ => None,
@@ -89,52 +139,67 @@ fn label_of(argument: Argument) -> Option<u32> {
 }
 
 // The label that a branch names, which stands last.
-fn target_of(given: Arguments) -> Option<u32> {
+fn target_in(given: Arguments) -> Option<u32>
+    ensures { result ≡ target_in given }
+{
     match given {
         Arguments::Zero => None,
-        Arguments::One(a) => label_of(a),
-        Arguments::Two(_, b) => label_of(b),
-        Arguments::Three(_, _, c) => label_of(c),
+        Arguments::One(a) => label_in(a),
+        Arguments::Two(_, b) => label_in(b),
+        Arguments::Three(_, _, c) => label_in(c),
     }
 }
 
-fn missing_label(facts: &Facts, function: Option<u32>, given: Arguments) -> Option<Break> {
-    match (target_of(given), function) {
-        (Some(word), Some(function)) => match facts.first(Fact::Label { function, word }) {
-            None => Some(Break::NoLabel(word)),
+fn missing_label(tables: &Tables, target: Option<u32>, function: Option<u32>) -> Option<Break>
+    ensures { result ≡ missing_label (file_in tables.now) target function }
+{
+    match (target, function) {
+        (Some(word), Some(function)) => match tables.facts.first(Fact::Label { function, word }) {
             Some(_) => None,
+            None => Some(Break::NoLabel(word)),
         },
         _ => None,
     }
 }
 
-fn no_label(facts: &Facts, function: Option<u32>, statement: Option<Statement>) -> Option<Break> {
+fn no_label(tables: &Tables, function: Option<u32>, statement: Option<Statement>) -> Option<Break>
+    ensures { result ≡ no_label (file_in tables.now) function statement }
+{
     match statement {
-        Some(Statement::Instruction(_, given)) => missing_label(facts, function, given),
+        Some(Statement::Instruction(_, given)) => {
+            missing_label(tables, target_in(given), function)
+        }
         _ => None,
     }
 }
 
-fn unfinished_by(
-    facts: &Facts,
-    rows: &[Row],
-    index: u32,
-    place: Place,
-    line: Line,
-) -> Option<Break> {
-    if (line.label.is_some() && is_past(facts, place.function, u64::from(place.number)))
-        || lacks(facts, rows, index, place, line.statement)
-    {
+fn is_missing(tables: &Tables, index: u32, place: Place, statement: Option<Statement>) -> bool
+    ensures { result ≡ (is_unended (file_in tables.now) index place statement || list_any (is_undefined (file_in tables.now)) (names_of_statement statement)) }
+{
+    is_unended(tables, index, place, statement) || names_undefined(tables, statement)
+}
+
+fn is_incomplete(tables: &Tables, index: u32, place: Place, line: Line) -> bool
+    ensures { result ≡ (names_nothing (file_in tables.now) place line.label || (is_unended (file_in tables.now) index place line.statement || list_any (is_undefined (file_in tables.now)) (names_of_statement line.statement))) }
+{
+    names_nothing(tables, place, line.label) || is_missing(tables, index, place, line.statement)
+}
+
+fn unfinished_by(tables: &Tables, index: u32, place: Place, content: Option<Line>) -> Option<Break>
+    ensures { result ≡ unfinished_by (file_in tables.now) index place content }
+{
+    let line = content?;
+    if is_incomplete(tables, index, place, line) {
         Some(Break::Syntax)
     } else {
-        no_label(facts, place.function, line.statement)
+        no_label(tables, place.function, line.statement)
     }
 }
 
 /// The break of a line that later lines, or the end of the file, show.
-pub(crate) fn unfinished(facts: &Facts, rows: &[Row], index: u32, row: &Row) -> Option<Break> {
-    match row.content {
-        None => None,
-        Some(line) => unfinished_by(facts, rows, index, row.place, line),
-    }
+#[tactic(auto, unfolding(crate::specs::Breaks::unfinished))]
+pub(crate) fn unfinished(tables: &Tables, index: u32, row: &Row) -> Option<Break>
+    ensures { result ≡ unfinished (file_in tables.now) index row.now }
+{
+    unfinished_by(tables, index, row.place, row.content)
 }
