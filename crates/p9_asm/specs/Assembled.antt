@@ -7,6 +7,7 @@ use Rattle.p9_abs.specs.declared.modules.AModule.{AModule}
 use Rattle.p9_lex.specs.declared.token.Dialect.TheVariants.{Asm}
 use Rattle.p9_lex.specs.declared.token.Token.{Token}
 use Rattle.p9_lex.specs.declared.token.LexFault.{LexFault}
+use Rattle.p9_lex.specs.declared.token.LexFault.TheVariants as lex_faults
 use Rattle.p9_lex.specs.Tokens.{lexed}
 use Rattle.p9_rows.specs.declared.rows.Row.{Row}
 use Rattle.p9_rows.specs.Rows.{rows_of, lexemes_of}
@@ -66,10 +67,17 @@ unfoldable pub assembled : List ℕ → Result AModule AsmFault
 assembled bytes = answer_of (lexed Asm bytes)
 
 -- want of memory has no rule
+abbrev pub IsFault : Result AModule AsmFault → AsmFault → Type 0
+IsFault answer (Lex fault) = answer ≡ Err (Lex fault)
+IsFault answer (AsmSyntax line) = answer ≡ Err (AsmSyntax line)
+IsFault answer (Reserved line r) = answer ≡ Err (Reserved line r)
+IsFault answer (NoLabel line name) = answer ≡ Err (NoLabel line name)
+IsFault answer (LabelTwice line name) = answer ≡ Err (LabelTwice line name)
+IsFault answer Memory = Unit {0}
+
+abbrev pub lex_fault : LexFault → AsmFault
+lex_fault lex_faults.Memory = Memory
+lex_fault fault = Lex fault
+
 abbrev pub IsRefusal : List ℕ → AsmFault → Type 0
-IsRefusal bytes (Lex fault) = assembled bytes ≡ Err (Lex fault)
-IsRefusal bytes (AsmSyntax line) = assembled bytes ≡ Err (AsmSyntax line)
-IsRefusal bytes (Reserved line r) = assembled bytes ≡ Err (Reserved line r)
-IsRefusal bytes (NoLabel line name) = assembled bytes ≡ Err (NoLabel line name)
-IsRefusal bytes (LabelTwice line name) = assembled bytes ≡ Err (LabelTwice line name)
-IsRefusal bytes Memory = Unit {0}
+IsRefusal bytes fault = IsFault (assembled bytes) fault

@@ -58,3 +58,8 @@ pieces_from file s place (suc left) = in_front file (standing file s place) (pie
 abbrev pub flushed : List ℕ → List DataPiece
 flushed [] = []
 flushed (b ∷ bytes) = piece.Raw (b ∷ bytes) ∷ []
+
+-- bytes in front of pieces
+abbrev pub bytes_in_front : List ℕ → List DataPiece → List DataPiece
+bytes_in_front [] pieces = pieces
+bytes_in_front (b ∷ bytes) pieces = raw_in_front b (bytes_in_front bytes pieces)

@@ -79,5 +79,8 @@ body_of file s = body_by file s (file.first (definition s))
 unfoldable pub symbol_of : List Token → File → SymbolName → Symbol
 symbol_of tokens file s = record { name = name_at tokens s.word; local = s.local; sig = signature_of tokens file s; body = body_of file s }
 
+abbrev pub symbols_by : List Token → File → List SymbolName → List Symbol
+symbols_by tokens file names = map (symbol_of tokens file) names
+
 abbrev pub module_of : List Token → List Row → AModule
-module_of tokens rows = record { symbols = map (symbol_of tokens (file_of rows)) (symbols_of rows) }
+module_of tokens rows = record { symbols = symbols_by tokens (file_of rows) (symbols_of rows) }

@@ -1,10 +1,11 @@
 // The module of a text, or why the text is refused.
-ghost use Rattle.std.specs.Prelude.{◌≡◌, ◌≤◌, ◌^◌, length, IfOk, IfErr, Ok, Err};
+ghost use Rattle.std.specs.Prelude.{◌≡◌, ◌≤◌, ◌<◌, ◌^◌, length, IfOk, IfErr, Ok, Err};
 ghost use Rattle.p9_lex.specs.declared.token.Dialect.TheVariants.{Asm};
 ghost use Rattle.p9_lex.specs.Tokens.{lexed};
 ghost use Rattle.p9_asm.specs.Files.{file_in};
 ghost use Rattle.p9_asm.specs.Breaks.{shown, unfinished};
-ghost use Rattle.p9_asm.specs.Assembled.{first_by, first_break, line_at, fault_of, assembled_tokens, assembled, IsRefusal, IsBreak};
+ghost use Rattle.p9_asm.specs.Modules.{symbols_by};
+ghost use Rattle.p9_asm.specs.Assembled.{broken_at, lex_fault, first_by, first_break, line_at, fault_of, assembled_tokens, assembled, IsFault, IsRefusal};
 
 use crate::breaks::Break;
 use crate::fault::AsmFault;
@@ -106,7 +107,9 @@ fn fault_of(alloc: Global, tokens: &[Token], broken: Broken) -> Result<AsmFault,
     }
 }
 
-fn module_of(alloc: Global, tokens: &[Token], tables: &Tables) -> Result<AModule, NoMemory> {
+fn module_of(alloc: Global, tokens: &[Token], tables: &Tables) -> Result<AModule, NoMemory>
+    ensures { IfOk result (λ m. m.symbols ≡ symbols_by tokens.now (file_in tables.now) tables.now.names.list.items) }
+{
     let list = symbols_of(alloc, tokens, tables)?;
     Ok(AModule {
         symbols: Symbols { list },
@@ -116,12 +119,21 @@ fn module_of(alloc: Global, tokens: &[Token], tables: &Tables) -> Result<AModule
 fn assembled(alloc: Global, tokens: &[Token]) -> Result<AModule, AsmFault>
     requires { length tokens.now ≤ 2 ^ 25 }
     ensures module { IfOk result (λ m. assembled_tokens tokens.now ≡ Ok m) }
-    ensures refused { IfErr result (IsBreak tokens.now) }
+    ensures refused { IfErr result (IsFault (assembled_tokens tokens.now)) }
 {
     let tables = Tables::new(alloc, tokens)?;
     match first_break(&tables) {
         Some(broken) => Err(fault_of(alloc, tokens, broken)?),
         None => Ok(module_of(alloc, tokens, &tables)?),
+    }
+}
+
+fn lex_fault(fault: LexFault) -> AsmFault
+    ensures { result ≡ lex_fault fault }
+{
+    match fault {
+        LexFault::Memory => AsmFault::Memory,
+        _ => AsmFault::Lex(fault),
     }
 }
 
@@ -132,8 +144,7 @@ fn lexed(alloc: Global, bytes: &[u8]) -> Result<Tokens, AsmFault>
 {
     match lex(alloc, bytes, Dialect::Asm) {
         Ok(tokens) => Ok(tokens),
-        Err(LexFault::Memory) => Err(AsmFault::Memory),
-        Err(fault) => Err(AsmFault::Lex(fault)),
+        Err(fault) => Err(lex_fault(fault)),
     }
 }
 

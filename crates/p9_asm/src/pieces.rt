@@ -1,8 +1,9 @@
 // The bytes and addresses of initialised data.
-ghost use Rattle.std.specs.Prelude.{◌≡◌, ◌++◌, [], ◌∷◌, IfOk, OnOk, option_and_then};
+ghost use Rattle.std.specs.Prelude.{◌≡◌, List, ◌++◌, [], ◌∷◌, IfOk, OnOk, option_and_then};
+ghost use Rattle.p9_abs.specs.declared.modules.DataPiece.{DataPiece};
 ghost use Rattle.p9_abs.specs.declared.modules.DataPiece.TheVariants.{Address};
 ghost use Rattle.p9_asm.specs.Files.{file_in, statement_at};
-ghost use Rattle.p9_asm.specs.Data.{half_byte, word_byte, cell_of, cell_in, standing, flushed, pieces_from};
+ghost use Rattle.p9_asm.specs.Data.{half_byte, word_byte, cell_of, cell_in, standing, in_front, flushed, bytes_in_front, pieces_from};
 
 use crate::tables::Tables;
 use p9_abs::{DataPiece, Pieces};
@@ -113,6 +114,27 @@ fn push_address(
     Ok(())
 }
 
+// Adds what stands at the next place.
+fn push_cell(
+    alloc: Global,
+    tables: &Tables,
+    pieces: &mut Vec<DataPiece>,
+    raw: &mut Vec<u8>,
+    cell: Cell,
+) -> Result<(), NoMemory>
+    ensures { OnOk result ((ps : List DataPiece) → pieces.new.items ++ bytes_in_front raw.new.items ps ≡ pieces.old.items ++ bytes_in_front raw.old.items (in_front (file_in tables.now) cell ps)) }
+{
+    match cell {
+        Cell::Byte(byte) => raw.push(byte)?,
+        Cell::Start(other, offset) => {
+            let before = mem::replace(raw, Vec::new(alloc));
+            push_address(pieces, before, tables.number_of(other), offset)?;
+        }
+        Cell::Inside => {}
+    }
+    Ok(())
+}
+
 /// The pieces of the symbol's data, of that size.
 pub(crate) fn pieces_of(
     alloc: Global,
@@ -126,14 +148,8 @@ pub(crate) fn pieces_of(
     let mut raw = Vec::new(alloc);
     let mut place = 0u32;
     while place < size {
-        match standing(tables, symbol, u64::from(place)) {
-            Cell::Byte(byte) => raw.push(byte)?,
-            Cell::Start(other, offset) => {
-                let before = mem::replace(&mut raw, Vec::new(alloc));
-                push_address(&mut list, before, tables.number_of(other), offset)?;
-            }
-            Cell::Inside => {}
-        }
+        let cell = standing(tables, symbol, u64::from(place));
+        push_cell(alloc, tables, &mut list, &mut raw, cell)?;
         place += 1;
     }
     push_raw(&mut list, raw)?;

@@ -1,5 +1,5 @@
 // Breaks that a line shows with the lines before it.
-ghost use Rattle.std.specs.Prelude.{◌≡◌, ◌+◌, ◌<◌, ◌^◌};
+ghost use Rattle.std.specs.Prelude.{◌≡◌, ◌+◌, ◌<◌, ◌^◌, ◌||◌};
 ghost use Rattle.std.specs.List.{list_all};
 ghost use Rattle.p9_facts.specs.Facts.{word_facts, datum_bytes};
 ghost use Rattle.p9_asm.specs.Files.{file_in};
@@ -113,8 +113,7 @@ fn label_twice(
 fn is_syntax(tables: &Tables, index: u32, place: Place, line: Line) -> bool
     ensures { result ≡ (is_label_outside line.label place.function || is_broken (file_in tables.now) index place line.statement) }
 {
-    is_label_outside(line.label, place.function)
-        || is_broken(tables, index, place, line.statement)
+    is_label_outside(line.label, place.function) || is_broken(tables, index, place, line.statement)
 }
 
 // The break of the least number on a line.

@@ -1,6 +1,7 @@
 // What is known of a file once it is read.
-ghost use Rattle.std.specs.Prelude.{◌≡◌, ◌≤◌, ◌^◌, length, IfOk};
+ghost use Rattle.std.specs.Prelude.{◌≡◌, ◌≤◌, ◌<◌, ◌^◌, length, IfOk};
 ghost use Rattle.p9_rows.specs.Rows.{rows_of, lexemes_of};
+ghost use Rattle.p9_facts.specs.Names.{symbols_of};
 ghost use Rattle.p9_asm.specs.Files.{file_of, file_in, number_of, statement_in, statement_at};
 
 use p9_base::NoMemory;
@@ -28,7 +29,8 @@ impl Tables {
     /// The tables of a file of these lines.
     fn of_rows(alloc: Global, rows: Vec<Row>) -> Result<Tables, NoMemory>
         requires { length rows.items < 2 ^ 32 }
-        ensures { IfOk result (λ tables. file_in tables ≡ file_of rows.items) }
+        ensures file { IfOk result (λ tables. file_in tables ≡ file_of rows.items) }
+        ensures names { IfOk result (λ tables. tables.names.list.items ≡ symbols_of rows.items) }
     {
         let facts = Facts::new(alloc, &rows)?;
         let names = Names::new(alloc, &rows)?;
@@ -38,7 +40,9 @@ impl Tables {
     /// The tables of a file of these tokens.
     pub(crate) fn new(alloc: Global, tokens: &[Token]) -> Result<Tables, NoMemory>
         requires { length tokens.now ≤ 2 ^ 25 }
-        ensures { IfOk result (λ tables. file_in tables ≡ file_of (rows_of (lexemes_of tokens.now))) }
+        ensures file { IfOk result (λ tables. file_in tables ≡ file_of (rows_of (lexemes_of tokens.now))) }
+        ensures names { IfOk result (λ tables. tables.names.list.items ≡ symbols_of (rows_of (lexemes_of tokens.now))) }
+        ensures few { IfOk result (λ tables. length tables.rows.items < 2 ^ 32) }
     {
         let lexemes = lexemes_of(alloc, tokens)?;
         let rows = rows_of(alloc, &lexemes)?;
