@@ -1,5 +1,6 @@
 // Files that are assembled, and files that are refused.
 use crate::{AsmFault, assemble};
+use p9_abs::{Body, DataPiece, Op, Operand, Symbol, TextDef};
 use p9_lex::LexFault;
 use std::alloc::Global;
 use std::test::Fail;
@@ -71,5 +72,72 @@ fn rows_are_told(rt: HostRuntime) -> Result<(), Fail> {
     for (text, wanted) in ROWS {
         assert_eq!(rt; answer(rt.alloc(), text), wanted, "{text}");
     }
+    Ok(())
+}
+
+// Two operands stand for three, and a label names the next instruction.
+#[test]
+fn functions_are_assembled(rt: HostRuntime) -> Result<(), Fail> {
+    let text = "TEXT f(SB), $4\nJMP a\nADD $1, R2\na:\n\nRET\n";
+    let made = assemble(rt.alloc(), text.as_bytes())?;
+    let is_made = match made.symbols.list.as_slice() {
+        [
+            Symbol {
+                name,
+                local: false,
+                body: Body::Text(TextDef { frame: 4, code }),
+                ..
+            },
+        ] => match code.list.as_slice() {
+            [jump, add, end] => {
+                name.list.as_slice() == b"f".as_slice()
+                    && jump.operands.list.as_slice() == [Operand::Label(2)].as_slice()
+                    && add.operands.list.as_slice()
+                        == [Operand::Const(1), Operand::Reg(2), Operand::Reg(2)].as_slice()
+                    && end.op == Op::Ret
+            }
+            _ => false,
+        },
+        _ => false,
+    };
+    assert!(rt; is_made);
+    Ok(())
+}
+
+// Bytes that no line gives are zeros, the highest byte of a value stands first, and the symbol that is
+// named first has the least number.
+#[test]
+fn data_are_assembled(rt: HostRuntime) -> Result<(), Fail> {
+    let text = "DATA x<>+4(SB)/4, $y+8(SB)\nDATA x<>+2(SB)/2, $0x11234\nGLOBL x<>(SB), $9\n";
+    let made = assemble(rt.alloc(), text.as_bytes())?;
+    let is_made = match made.symbols.list.as_slice() {
+        [
+            Symbol {
+                local: true,
+                body: Body::Data(pieces),
+                ..
+            },
+            Symbol {
+                local: false,
+                body: Body::Used,
+                ..
+            },
+        ] => match pieces.list.as_slice() {
+            [
+                DataPiece::Raw(first),
+                DataPiece::Address {
+                    symbol: 1,
+                    offset: 8,
+                },
+                DataPiece::Raw(last),
+            ] => {
+                first.list.as_slice() == [0, 0, 0x12, 0x34].as_slice()
+                    && last.list.as_slice() == [0].as_slice()
+            }
+            _ => false,
+        },
+        _ => false,
+    };
+    assert!(rt; is_made);
     Ok(())
 }
