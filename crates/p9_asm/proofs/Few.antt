@@ -1,5 +1,5 @@
 -- A file has at most one token a byte, and the end.
-use Rattle.std.proofs.Common.{◌≡◌, ℕ, zero, suc, ◌+◌, ◌-◌, ◌≤◌, ◌^◌, Bool, true, false, cond, leb, List, [], ◌∷◌, ◌++◌, length, Option, Some, None, Result, Ok, Err, refl, sym, ap, ◌∙◌, arith, length-append}
+use Rattle.std.proofs.Common.{◌≡◌, ℕ, zero, suc, ◌+◌, ◌-◌, ◌≤◌, ◌^◌, Bool, true, false, cond, leb, List, [], ◌∷◌, ◌++◌, length, Option, Some, None, Result, Ok, Err, refl, ap, arith, length-append}
 use Rattle.std.specs.Prelude.{is_some}
 use Rattle.std.proofs.lemmas.Bool.Decides.{nat_tests}
 use Rattle.p9_lex.specs.declared.broken.Break.{Break}
@@ -10,7 +10,6 @@ use Rattle.p9_lex.specs.declared.token.Dialect.TheVariants.{Asm}
 use Rattle.p9_lex.specs.declared.token.Token.{Token}
 use Rattle.p9_lex.specs.declared.token.TokenKind.{TokenKind}
 use Rattle.p9_lex.specs.declared.token.TokenKind.TheVariants as kinds
-use Rattle.p9_lex.specs.declared.token.LexFault.{LexFault}
 use Rattle.p9_lex.specs.Piece.{piece}
 use Rattle.p9_lex.specs.Tokens.{kind_of, first_after, line_after, tokens_at, in_front, after_piece, scan, max_bytes, too_long, limited, answer_of, lexed}
 

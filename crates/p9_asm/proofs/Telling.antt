@@ -1,5 +1,5 @@
 -- What is told of a file's tokens is what is told of its bytes.
-use Rattle.std.proofs.Common.{◌≡◌, ℕ, List, Option, Some, None, Result, Ok, Err, IfOk, IfErr, refl, sym, ap, subst, ◌∙◌}
+use Rattle.std.proofs.Common.{◌≡◌, ℕ, List, Some, None, Result, Ok, Err, IfOk, IfErr, sym, ap, subst, ◌∙◌}
 use Rattle.p9_abs.specs.declared.modules.Symbol.{Symbol}
 use Rattle.p9_abs.specs.declared.modules.AModule.{AModule}
 use Rattle.p9_lex.specs.declared.token.Dialect.TheVariants.{Asm}
@@ -14,8 +14,8 @@ use Rattle.p9_asm.specs.declared.assembler.Broken.{Broken}
 use Rattle.p9_asm.specs.declared.fault.AsmFault.{AsmFault}
 use Rattle.p9_asm.specs.declared.fault.AsmFault.TheVariants.{Lex, AsmSyntax, Reserved, NoLabel, LabelTwice, Memory}
 use Rattle.p9_asm.specs.Files.{File, file_of}
-use Rattle.p9_asm.specs.Modules.{symbols_by, module_of}
-use Rattle.p9_asm.specs.Assembled.{first_break, fault_of, judged, assembled_rows, assembled_tokens, answer_of, assembled, IsFault, IsRefusal, lex_fault}
+use Rattle.p9_asm.specs.Modules.{symbols_by}
+use Rattle.p9_asm.specs.Assembled.{first_break, fault_of, judged, assembled_tokens, answer_of, assembled, IsFault, IsRefusal, lex_fault}
 
 is_fault : (answer : Result AModule AsmFault) (fault : AsmFault) → answer ≡ Err fault → IsFault answer fault
 is_fault answer (Lex fault) h = h

@@ -1,5 +1,5 @@
 -- The instructions of a function.
-use Rattle.std.specs.Prelude.{ℕ, List, [], ◌∷◌, map, Option, Some, None, unwrap_or, slice_get, option_map, option_and_then}
+use Rattle.std.specs.Prelude.{ℕ, List, [], ◌∷◌, map, Option, Some, unwrap_or, slice_get, option_map, option_and_then}
 use Rattle.p9_abs.specs.declared.instructions.Op.{Op}
 use Rattle.p9_abs.specs.declared.instructions.Operand.{Operand}
 use Rattle.p9_abs.specs.declared.instructions.Operand.TheVariants as to

@@ -1,5 +1,5 @@
 -- The module of a file.
-use Rattle.std.specs.Prelude.{ℕ, ◌+◌, List, [], ◌∷◌, map, drop, Option, Some, None, is_some, slice_get, option_and_then, if◌then◌else◌}
+use Rattle.std.specs.Prelude.{ℕ, ◌+◌, List, [], map, drop, Option, Some, None, is_some, slice_get, option_and_then, if◌then◌else◌}
 use Rattle.p9_abs.specs.declared.modules.AModule.{AModule}
 use Rattle.p9_abs.specs.declared.modules.Body.{Body}
 use Rattle.p9_abs.specs.declared.modules.Body.TheVariants as bodies

@@ -1,8 +1,3 @@
-use Rattle.std.proofs.Common.{◌≡◌, Result, Ok, List, sym, ap, ◌∙◌}
-use Rattle.p9_lex.specs.declared.token.Dialect.TheVariants.{Asm}
-use Rattle.p9_lex.specs.declared.token.Token.{Token}
-use Rattle.p9_lex.specs.declared.token.LexFault.{LexFault}
-use Rattle.p9_lex.specs.Tokens.{lexed}
 use Rattle.p9_asm.proofs.Telling.{same_lexed, module_told, fault_told}
 use Rattle.p9_asm.proofs.assembler.assemble.Goals as goal
 

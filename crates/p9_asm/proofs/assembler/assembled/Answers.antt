@@ -1,5 +1,5 @@
 use Rattle.p9_asm.specs.Files.{file_in}
-use Rattle.std.proofs.Common.{sym, ◌∙◌}
+use Rattle.std.proofs.Common.{sym}
 use Rattle.p9_asm.proofs.Telling.{told_fault, told_module}
 use Rattle.p9_asm.proofs.assembler.assembled.Goals as goal
 

@@ -1,6 +1,5 @@
-use Rattle.std.proofs.Common.{◌≡◌, [], ◌++◌, ◌∷◌, ap, ◌∙◌, rules}
+use Rattle.std.proofs.Common.{◌≡◌, [], rules}
 use Rattle.p9_asm.specs.Files.{file_in, number_of}
-use Rattle.p9_asm.specs.Data.{bytes_in_front}
 use Rattle.p9_asm.proofs.Runs.{add_byte, add_start}
 use Rattle.p9_asm.proofs.pieces.push_cell.Goals as goal
 
