@@ -12,6 +12,7 @@ const OBJECT: &[u8] =
 
 // A line over a file, the calls on the store that fail, its answer, and the file that then has the
 // object, if one has.
+#[derive(Clone, Copy)]
 struct Row<'a> {
     line: &'a [u8],
     text: &'a [u8],
@@ -21,7 +22,7 @@ struct Row<'a> {
     object: Option<&'a [u8]>,
 }
 
-fn row<'a>(
+fn answered<'a>(
     line: &'a [u8],
     text: &'a [u8],
     status: u8,
@@ -65,35 +66,35 @@ fn is_answered(alloc: Global, row: &Row<'_>) -> Result<bool, Fail> {
 #[test]
 fn objects(rt: HostRuntime) -> Result<(), Fail> {
     let rows = [
-        row(b"va f.s", ONE, 0, b"", Some(b"f.v")),
-        row(b"va -o g.v f.s", ONE, 0, b"", Some(b"g.v")),
-        row(
+        answered(b"va f.s", ONE, 0, b"", Some(b"f.v")),
+        answered(b"va -o g.v f.s", ONE, 0, b"", Some(b"g.v")),
+        answered(
             b"va f.s",
             b"TEXT f(SB), $0\nJMP a\n",
             3,
             b"f.s:2: 34 NoLabel a\n",
             None,
         ),
-        row(
+        answered(
             b"va f.s",
             b"TEXT f(SB), $0\nMOVW $1, R28\nRET\n",
             3,
             b"f.s:2: 33 Reserved 28\n",
             None,
         ),
-        row(b"va f.s", b"MOVW '\n", 3, b"f.s:1: 3 OpenText 5\n", None),
-        row(b"va f.s", b"RET\n", 3, b"f.s:1: 32 AsmSyntax\n", None),
-        row(b"va g.s", ONE, 6, b"g.s: absent\n", None),
-        row(b"va f.c", ONE, 2, b"usage\n", None),
-        row(b"va -o f.s", ONE, 2, b"usage\n", None),
-        row(b"va f.s f.s", ONE, 2, b"usage\n", None),
+        answered(b"va f.s", b"MOVW '\n", 3, b"f.s:1: 3 OpenText 5\n", None),
+        answered(b"va f.s", b"RET\n", 3, b"f.s:1: 32 AsmSyntax\n", None),
+        answered(b"va g.s", ONE, 6, b"g.s: absent\n", None),
+        answered(b"va f.c", ONE, 2, b"usage\n", None),
+        answered(b"va -o f.s", ONE, 2, b"usage\n", None),
+        answered(b"va f.s f.s", ONE, 2, b"usage\n", None),
         Row {
             fails: &[1],
-            ..row(b"va f.s", ONE, 9, b"f.s: store fault\n", None)
+            ..answered(b"va f.s", ONE, 9, b"f.s: store fault\n", None)
         },
         Row {
             fails: &[2],
-            ..row(b"va f.s", ONE, 9, b"f.v: store fault\n", None)
+            ..answered(b"va f.s", ONE, 9, b"f.v: store fault\n", None)
         },
     ];
     for row in rows {
