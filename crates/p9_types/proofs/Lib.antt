@@ -8,3 +8,5 @@ mod Advancing
 mod TagsAt
 mod Laid
 mod SampleTypes
+mod Tallies
+mod Descent
