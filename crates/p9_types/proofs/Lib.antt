@@ -10,3 +10,8 @@ mod Laid
 mod SampleTypes
 mod Tallies
 mod Descent
+mod Pruning
+mod Searching
+mod Entries
+mod Placings
+mod Unnamed

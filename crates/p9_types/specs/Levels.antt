@@ -1,7 +1,7 @@
 -- Levels of structures within a structure. A structure may stand at a level more than once; of such
 -- ones it counts only that there are several.
-use Rattle.std.specs.Prelude.{◌≡◌, ℕ, zero, suc, ◌==◌, Bool, true, false, not, if◌then◌else◌, List, [], ◌∷◌, ◌++◌}
-use Rattle.std.specs.List.{flat_map}
+use Rattle.std.specs.Prelude.{◌≡◌, ℕ, zero, suc, ◌==◌, Bool, true, false, not, IsTrue, if◌then◌else◌, List, [], ◌∷◌, ◌++◌}
+use Rattle.std.specs.List.{flat_map, filter, list_all}
 use Rattle.p9_lang.specs.Types.{Tags}
 use Rattle.p9_lang.specs.Members.{Part, Sought, Nowhere, One, Several, or_deeper, offset_if}
 
@@ -29,3 +29,17 @@ SameLevel level other = (tag : ℕ) → stands_at tag level ≡ stands_at tag ot
 abbrev pub copies : (several : Bool) → Part → List Part
 copies false part = part ∷ []
 copies true part = part ∷ part ∷ []
+
+-- a level without what was met
+abbrev pub unmet : (ℕ → Bool) → List Part → List Part
+unmet met level = filter (λ p. not (met p.tag)) level
+
+-- A level to which parts are added. What a test says of all parts of a level and of those that are
+-- added it says of all afterwards: where there are several of a structure, some may be left out.
+pub record Adds (level parts later : List Part) : Type 0 where
+  pub same : SameLevel later (level ++ parts)
+  pub keeps : (test : Part → Bool) → IsTrue (list_all test level) → IsTrue (list_all test parts) → IsTrue (list_all test later)
+
+-- what comes in from parts of one that stands there once, or several times
+abbrev pub entering : (several : Bool) → (met : ℕ → Bool) → List Part → List Part
+entering several met parts = flat_map (copies several) (unmet met parts)

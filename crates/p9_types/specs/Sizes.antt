@@ -1,8 +1,9 @@
 -- Structures and unions whose sizes are within the limit.
 use Rattle.std.specs.Prelude.{◌≡◌, ◌≤◌, ℕ, ◌+◌, nat_le, Bool, List, [], ◌∷◌, length, slice_get, Option, Some, None, IsSomeAnd}
+use Rattle.std.specs.List.{list_all}
 use Rattle.p9_lang.specs.Types.{Tagged, MemberTree, TagTree, Tags}
 use Rattle.p9_lang.specs.Layout.{Extent, layout, filled, tag_extent, size_of, size_limit}
-use Rattle.p9_lang.specs.Members.{Part}
+use Rattle.p9_lang.specs.Members.{Part, Placed}
 
 abbrev pub BodyIsWithin : Tags → ℕ → Option (List MemberTree) → Type 0
 BodyIsWithin tags i None = Unit {0}
@@ -24,3 +25,7 @@ FillsWithin tags is_union so_far members =
 -- whether a part ends within the limit
 abbrev pub ends_within : Tags → Part → Bool
 ends_within tags part = nat_le (part.offset + size_of tags (Tagged part.tag)) size_limit
+
+-- whether members begin within the limit, from an offset on
+abbrev pub begin_within : (offset : ℕ) → List Placed → Bool
+begin_within offset members = list_all (λ m. nat_le (offset + m.offset) size_limit) members

@@ -1,10 +1,11 @@
 -- Members and structures at a level, as plain data.
 use Rattle.std.specs.Prelude.{◌≡◌, ℕ, ◌==◌, ◌||◌, Bool, true, false, not, if◌then◌else◌, List, [], ◌∷◌, ◌++◌, map, nat_eq, Option, Some, None}
-use Rattle.std.specs.List.{flat_map, filter}
+use Rattle.std.specs.HashSet.{contains}
 use Rattle.p9_lang.specs.Types.{type_of}
 use Rattle.p9_lang.specs.Members.{Part, Placed}
 use Rattle.p9_types.specs.declared.level.Standing.{Standing}
 use Rattle.p9_types.specs.declared.level.Place.{Place}
+use Rattle.p9_types.specs.declared.level.MetTags.{MetTags}
 use Rattle.p9_types.specs.declared.placing.Placing.{Placing}
 use Rattle.p9_types.specs.Levels.{copies}
 
@@ -36,3 +37,12 @@ spread_entries (e ∷ es) = entry_copies e ++ spread_entries es
 abbrev pub stands_in : ℕ → List Standing → Bool
 stands_in i [] = false
 stands_in i (s ∷ ss) = nat_eq s.tag i || stands_in i ss
+
+-- a structure's place with one standing more
+abbrev pub place_with : Option Place → Standing → Place
+place_with None s = record { offset = s.offset; several = s.several }
+place_with (Some p) s = record { offset = p.offset; several = true }
+
+-- whether a structure was met
+abbrev pub met_by : MetTags → ℕ → Bool
+met_by met i = contains nat_eq met.set i

@@ -1,10 +1,8 @@
 // The structures and unions at one level within another.
-ghost use Rattle.std.specs.Prelude.{◌≡◌, ◌++◌, ◌||◌, [], ℕ, Bool, false, IsTrue, nat_eq, OnOk, IfOk};
-ghost use Rattle.std.specs.List.{list_all};
-ghost use Rattle.std.specs.HashSet.{contains};
-ghost use Rattle.p9_lang.specs.Members.{Part};
-ghost use Rattle.p9_types.specs.Levels.{SameLevel, copies};
-ghost use Rattle.p9_types.specs.Standings.{part_of, spread, spread_entries, stands_in};
+ghost use Rattle.std.specs.Prelude.{◌≡◌, ◌||◌, [], ℕ, false, nat_eq, OnOk, IfOk};
+ghost use Rattle.std.specs.Map.{lookup};
+ghost use Rattle.p9_types.specs.Levels.{Adds};
+ghost use Rattle.p9_types.specs.Standings.{copies_of, spread, spread_entries, stands_in, place_with, met_by};
 
 use indexmap::IndexMap;
 use p9_base::NoMemory;
@@ -35,7 +33,7 @@ pub(crate) struct MetTags {
 
 impl MetTags {
     pub(crate) fn new(alloc: Global) -> MetTags
-        ensures { (i : ℕ) → contains nat_eq result.set i ≡ false }
+        ensures { (i : ℕ) → met_by result i ≡ false }
     {
         MetTags {
             set: HashSet::new(alloc),
@@ -43,22 +41,22 @@ impl MetTags {
     }
 
     pub(crate) fn has(&self, tag: u32) -> bool
-        ensures { result ≡ contains nat_eq self.now.set tag }
+        ensures { result ≡ met_by self.now tag }
     {
         self.set.contains(&tag)
     }
 
     fn meet(&mut self, tag: u32) -> Result<(), NoMemory>
-        ensures { OnOk result ((i : ℕ) → contains nat_eq self.new.set i
-            ≡ (nat_eq tag i || contains nat_eq self.old.set i)) }
+        ensures { OnOk result ((i : ℕ) → met_by self.new i
+            ≡ (nat_eq tag i || met_by self.old i)) }
     {
         self.set.insert(tag)?;
         Ok(())
     }
 
     pub(crate) fn meet_all(&mut self, level: &[Standing]) -> Result<(), NoMemory>
-        ensures { OnOk result ((i : ℕ) → contains nat_eq self.new.set i
-            ≡ (stands_in i level.now || contains nat_eq self.old.set i)) }
+        ensures { OnOk result ((i : ℕ) → met_by self.new i
+            ≡ (stands_in i level.now || met_by self.old i)) }
     {
         let mut rest = level;
         'standings: while let [standing, after @ ..] = rest {
@@ -84,14 +82,11 @@ impl NextLevel {
         }
     }
 
-    pub(crate) fn add(&mut self, standing: Standing) -> Result<(), NoMemory>
-        ensures level { OnOk result (SameLevel (spread_entries self.new.places.entries)
-            (spread_entries self.old.places.entries ++ copies standing.several (part_of standing))) }
-        ensures keeps { OnOk result ((test : Part → Bool)
-            → IsTrue (list_all test (spread_entries self.old.places.entries)) → IsTrue (test (part_of standing))
-            → IsTrue (list_all test (spread_entries self.new.places.entries))) }
+    // The place of a structure with one standing more.
+    fn place_with(&self, standing: Standing) -> Place
+        ensures { result ≡ place_with (lookup (nat_eq standing.tag) self.now.places.entries) standing }
     {
-        let place = match self.places.get(&standing.tag) {
+        match self.places.get(&standing.tag) {
             Some(place) => Place {
                 offset: place.offset,
                 several: true,
@@ -100,16 +95,23 @@ impl NextLevel {
                 offset: standing.offset,
                 several: standing.several,
             },
-        };
+        }
+    }
+
+    /// Adds a structure or union.
+    pub(crate) fn add(&mut self, standing: Standing) -> Result<(), NoMemory>
+        ensures { OnOk result (Adds (spread_entries self.old.places.entries)
+            (copies_of standing) (spread_entries self.new.places.entries)) }
+    {
+        let place = self.place_with(standing);
         self.places.insert(standing.tag, place)?;
         Ok(())
     }
 
+    /// The standings, in any order.
     pub(crate) fn into_standings(mut self, alloc: Global) -> Result<Vec<Standing>, NoMemory>
-        ensures level { IfOk result (λ standings. SameLevel (spread standings.items) (spread_entries self.places.entries)) }
-        ensures keeps { IfOk result (λ standings. (test : Part → Bool)
-            → IsTrue (list_all test (spread_entries self.places.entries))
-            → IsTrue (list_all test (spread standings.items))) }
+        ensures { IfOk result (λ standings.
+            Adds [] (spread_entries self.places.entries) (spread standings.items)) }
     {
         let mut standings = Vec::new(alloc);
         'places: while let Some((tag, place)) = self.places.pop() {

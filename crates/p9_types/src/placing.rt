@@ -1,6 +1,6 @@
 // Where the members of a structure or union stand.
-ghost use Rattle.std.specs.Prelude.{◌≡◌, ◌≤◌, [], OnOk, IfOk, IsSomeAnd, MatchOption};
-ghost use Rattle.p9_lang.specs.Types.{members_of, body_of, tags_of};
+ghost use Rattle.std.specs.Prelude.{◌≡◌, ◌+◌, OnOk, IfOk};
+ghost use Rattle.p9_lang.specs.Types.{members_of, tags_of};
 ghost use Rattle.p9_lang.specs.TagRules.{NoneContainsItself};
 ghost use Rattle.p9_lang.specs.Layout.{nothing_yet};
 ghost use Rattle.p9_lang.specs.Members.{placed, placed_from};
@@ -23,6 +23,13 @@ pub(crate) struct Placing<'a> {
     pub(crate) number: u32,
 }
 
+// The next member's number. There is no room for numbers of more than 32 bits.
+fn following(number: u32) -> Result<u32, NoMemory>
+    ensures { IfOk result (λ n. n ≡ number + 1) }
+{
+    number.checked_add(1).ok_or(NoMemory)
+}
+
 fn placed_in_body<'a>(
     alloc: Global,
     known: &mut KnownTags,
@@ -42,16 +49,14 @@ fn placed_in_body<'a>(
     let mut number: u32 = 0;
     let mut rest = members;
     'members: while let [member, after @ ..] = rest {
-        let Some(extent) = extent_within(alloc, known, &member.ty, tags)? else {
-            return Ok(placings);
-        };
+        let extent = extent_within(alloc, known, &member.ty, tags)?.unwrap_or(Capped::nothing());
         placings.push(Placing {
             member,
             offset: so_far.offset_of(is_union, extent),
             number,
         })?;
         so_far = so_far.with_member(is_union, extent);
-        number = number.checked_add(1).ok_or(NoMemory)?;
+        number = following(number)?;
         rest = after;
     }
     Ok(placings)

@@ -13,7 +13,6 @@ pub(crate) enum Sought<T> {
 
 impl<T: Copy + Drop> Sought<T> {
     /// Where it stands in two lists together.
-    #[tactic(auto, using(crate::proofs::Descent::same_sought))]
     pub(crate) fn and(self, other: Sought<T>) -> Sought<T>
         ensures { told_sought result ≡ together (told_sought self) (told_sought other) }
     {
