@@ -15,3 +15,5 @@ mod Searching
 mod Entries
 mod Placings
 mod Unnamed
+mod NamedMembers
+mod Loops

@@ -18,3 +18,7 @@ nothing_left (x ∷ xs) f = absurd (f (omega arith))
 pub empty_below : {X : Type 0} (xs : List X) → length xs < 1 → xs ≡ []
 empty_below [] e = refl
 empty_below (x ∷ xs) e = absurd (omega arith)
+
+pub first_or : {X : Type 0} (xs : List X) (d : X) → 1 ≤ length xs → xs ≡ get_or xs 0 d ∷ take (length xs - 1) (drop 1 xs)
+first_or [] d le = absurd (omega arith)
+first_or (y ∷ ys) d le = ap (λ l. y ∷ l) (sym (take_all (length (y ∷ ys) - 1) ys (omega arith)))

@@ -227,3 +227,13 @@ adds_over P M N a b = record {
   same = λ s. b.same s ∙ a.same s;
   keeps = λ test h k. b.keeps test h (a.keeps test h k);
 }
+
+-- the first standing's parts end within the limit, and the others'
+pub within_first : (tags : Tags) (s : Standing) (ss : List Standing) → IsTrue (list_all (ends_within tags) (spread (s ∷ ss))) → IsTrue (ends_within tags (part_of s))
+within_first tags s ss h = first s.several (all_front (ends_within tags) (copies_of s) (spread ss) h)
+  where
+    first : (b : Bool) → IsTrue (list_all (ends_within tags) (copies b (part_of s))) → IsTrue (ends_within tags (part_of s))
+    first b k = (both (ends_within tags (part_of s)) true (copies_all (ends_within tags) b false (part_of s) k)).0
+
+pub within_others : (tags : Tags) (s : Standing) (ss : List Standing) → IsTrue (list_all (ends_within tags) (spread (s ∷ ss))) → IsTrue (list_all (ends_within tags) (spread ss))
+within_others tags s ss h = all_back (ends_within tags) (copies_of s) (spread ss) h
