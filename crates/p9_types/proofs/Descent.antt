@@ -1,13 +1,12 @@
 -- Searches level by level, where a level leaves out what an earlier one has.
-use Rattle.std.proofs.Common.{◌≡◌, ◌≤◌, ◌⊎◌, inl, inr, ℕ, zero, suc, ◌+◌, Bool, true, false, not, ◌||◌, nat_eq, if◌then◌else◌, List, [], ◌∷◌, ◌++◌, map, append-nil, append_assoc, true≢false, refl, sym, ap, subst, ◌∙◌, arith}
-use Rattle.std.specs.List.{flat_map, filter}
-use Rattle.std.proofs.lemmas.Bool.{eqb-true}
+use Rattle.std.proofs.Common.{◌≡◌, ℕ, zero, suc, ◌+◌, Bool, true, false, nat_eq, if◌then◌else◌, List, [], ◌∷◌, ◌++◌, refl, sym, ap, subst, ◌∙◌}
+use Rattle.std.specs.List.{flat_map}
 use Rattle.std.proofs.lemmas.Grind.{flat_map-append}
 use Rattle.p9_lang.specs.Names.{is_nameless}
-use Rattle.p9_lang.specs.Types.{TypeTree, Void, Char, UChar, Short, UShort, Int, UInt, Long, ULong, Pointer, Array, Function, Tagged, Tags}
-use Rattle.p9_lang.specs.Members.{Part, Placed, Sought, Nowhere, One, Several, or_deeper, offset_if, part_at, unnamed_part, inner_parts, placed, sought, whole}
-use Rattle.p9_types.specs.Levels.{tally, together, stands_at, SameLevel}
-use Rattle.p9_types.proofs.Tallies.{IsUniform, over, or_deeper_over, tally_append, parted, level_found, same_back}
+use Rattle.p9_lang.specs.Types.{TypeTree, Tagged, Tags}
+use Rattle.p9_lang.specs.Members.{Part, Placed, offset_if, part_at, unnamed_part, inner_parts, placed, sought}
+use Rattle.p9_types.specs.Levels.{tally, SameLevel}
+use Rattle.p9_types.proofs.Tallies.{IsUniform, over, or_deeper_over, level_found}
 
 -- WITHIN PARTS OF ONE STRUCTURE
 

@@ -1,17 +1,16 @@
 -- Levels as entries by number.
-use Rattle.std.proofs.Common.{◌≡◌, ℕ, Bool, true, false, IsTrue, nat_eq, ◌||◌, ◌&&◌, if◌then◌else◌, List, [], ◌∷◌, ◌++◌, Option, Some, None, append-nil, append_assoc, eq-eqb, refl, sym, ap, subst, ◌∙◌, arith}
-use Rattle.std.specs.List.{flat_map, list_all}
+use Rattle.std.proofs.Common.{◌≡◌, ℕ, Bool, true, false, IsTrue, nat_eq, ◌&&◌, if◌then◌else◌, List, [], ◌∷◌, ◌++◌, Some, append-nil, append_assoc, refl, sym, ap, subst, ◌∙◌}
+use Rattle.std.specs.List.{list_all}
 use Rattle.std.specs.Map.{lookup}
 use Rattle.std.proofs.lemmas.Bool.{eqb-true}
-use Rattle.std.proofs.lemmas.Bool.Decides.{nat_tests}
 use Rattle.std.proofs.lemmas.List.Folds.{list_all-append}
 use Rattle.indexmap.specs.IndexMap.{insert_entry}
-use Rattle.p9_lang.specs.Members.{Part, Sought, Nowhere, One, Several, offset_if}
+use Rattle.p9_lang.specs.Members.{Part, Sought, Nowhere, One, Several}
 use Rattle.p9_types.specs.declared.level.Standing.{Standing}
 use Rattle.p9_types.specs.declared.level.Place.{Place}
 use Rattle.p9_types.specs.Levels.{tally, together, stands_at, SameLevel, copies, Adds}
-use Rattle.p9_types.specs.Standings.{part_of, copies_of, spread, entry_copies, spread_entries, stands_in, place_with}
-use Rattle.p9_types.proofs.Tallies.{stands_append, together_none, together_several, together_comm, same_append, same_then, same_back, same_swap}
+use Rattle.p9_types.specs.Standings.{part_of, copies_of, spread, entry_copies, spread_entries, place_with}
+use Rattle.p9_types.proofs.Tallies.{stands_append, together_none, together_several, same_append, same_swap}
 
 -- ADDING
 

@@ -1,15 +1,15 @@
 -- Searches level by level, as loops over levels.
-use Rattle.std.proofs.Common.{◌≡◌, ◌≤◌, ◌<◌, ℕ, zero, suc, ◌+◌, ◌-◌, nat_le, nat_eq, Bool, true, false, not, ◌||◌, ◌&&◌, if◌then◌else◌, IsTrue, List, [], ◌∷◌, ◌++◌, length, slice_get, Option, Some, None, append-nil, refl, sym, ap, subst, ◌∙◌, arith}
+use Rattle.std.proofs.Common.{◌≡◌, ◌≤◌, ◌<◌, ℕ, zero, suc, ◌+◌, ◌-◌, nat_le, nat_eq, Bool, true, false, ◌||◌, ◌&&◌, IsTrue, List, [], ◌∷◌, ◌++◌, length, slice_get, Option, Some, None, refl, sym, ap, subst, ◌∙◌, arith}
 use Rattle.std.specs.List.{flat_map, list_all}
 use Rattle.std.proofs.lemmas.Bool.Decides.{nat_tests}
 use Rattle.p9_lang.specs.declared.types.Tag.{Tag}
-use Rattle.p9_lang.specs.Types.{Tagged, MemberTree, TagTree, Tags, tag_of, tags_of}
+use Rattle.p9_lang.specs.Types.{Tagged, MemberTree, TagTree, Tags, tags_of}
 use Rattle.p9_lang.specs.Layout.{size_of, size_limit, layout, size_in, body_extent, members_extent}
 use Rattle.p9_lang.specs.Members.{Part, Sought, Nowhere, One, Several, or_deeper, sought, inner_parts, whole}
 use Rattle.p9_types.specs.declared.level.Standing.{Standing}
-use Rattle.p9_types.specs.Levels.{tally, together, copies, unmet, Adds}
+use Rattle.p9_types.specs.Levels.{tally, copies, unmet, Adds}
 use Rattle.p9_types.specs.Sizes.{SizesAreWithin, ends_within}
-use Rattle.p9_types.specs.Standings.{part_of, copies_of, spread, stands_in}
+use Rattle.p9_types.specs.Standings.{part_of, spread, stands_in}
 use Rattle.p9_lang.specs.TagRules.{NoneContainsItself}
 use Rattle.p9_lang.proofs.Layouts.{layout_is_that_of_members}
 use Rattle.p9_types.proofs.Placings.{sized}

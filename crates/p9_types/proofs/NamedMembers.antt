@@ -1,11 +1,11 @@
 -- Members by their names, as they are found at a level.
-use Rattle.std.proofs.Common.{◌≡◌, ◌≤◌, ◌⊎◌, inl, inr, ℕ, zero, suc, ◌+◌, nat_eq, Bool, true, false, not, ◌&&◌, if◌then◌else◌, IsTrue, List, [], ◌∷◌, ◌++◌, map, length, slice_get, Option, Some, None, append-nil, refl, sym, ap, subst, ◌∙◌, arith}
+use Rattle.std.proofs.Common.{◌≡◌, ◌⊎◌, inl, inr, ℕ, zero, suc, ◌+◌, nat_eq, Bool, true, false, ◌&&◌, if◌then◌else◌, List, [], ◌∷◌, ◌++◌, map, length, slice_get, Option, Some, None, append-nil, refl, sym, ap, subst, ◌∙◌}
 use Rattle.std.specs.List.{flat_map, filter}
 use Rattle.std.specs.Cmp.Lexicographic.{pointwise}
 use Rattle.std.proofs.lemmas.Grind.{flat_map-append}
 use Rattle.p9_lang.specs.Names.{same_name}
 use Rattle.p9_lang.specs.declared.types.Tag.{Tag}
-use Rattle.p9_lang.specs.Types.{MemberTree, TagTree, Tags, tag_of, tags_of}
+use Rattle.p9_lang.specs.Types.{MemberTree, TagTree, Tags, tags_of}
 use Rattle.p9_lang.specs.Members.{Part, Placed, FoundMember, Sought, Nowhere, One, Several, or_deeper, sought, inner_parts, found_member, named_members, placed, found_of, find_in_tag, find_in_body, find_member, whole}
 use Rattle.p9_types.specs.declared.finding.MemberPlace.{MemberPlace}
 use Rattle.p9_types.specs.declared.finding.Found.{Found}
@@ -14,9 +14,9 @@ use Rattle.p9_types.specs.declared.sought.Sought as sight
 use Rattle.p9_types.specs.declared.sought.Sought.TheVariants as variants
 use Rattle.p9_types.specs.declared.level.Standing.{Standing}
 use Rattle.p9_types.specs.Levels.{tally, together, copies}
-use Rattle.p9_types.specs.Standings.{part_of, copies_of, spread, stands_in}
+use Rattle.p9_types.specs.Standings.{copies_of, spread}
 use Rattle.p9_types.specs.Sightings.{told_sought, place_of, named_among, named_places, has_body, has_members, without_type}
-use Rattle.p9_types.proofs.Tallies.{IsUniform, tally_append, tally_flat, together_assoc, together_none}
+use Rattle.p9_types.proofs.Tallies.{IsUniform, tally_append, together_assoc, together_none}
 
 pub names_by_bytes : (xs ys : List ℕ) (b : Bool) → b ≡ pointwise nat_eq xs ys → b ≡ same_name xs ys
 names_by_bytes xs ys b e = e ∙ same xs ys

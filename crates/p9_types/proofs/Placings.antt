@@ -1,12 +1,10 @@
 -- Where members stand, by what is filled before them.
-use Rattle.std.proofs.Common.{◌≡◌, ◌≤◌, ◌<◌, ℕ, zero, suc, ◌+◌, ◌-◌, ◌*◌, ◌/◌, max, nat_le, Bool, true, false, IsTrue, ◌&&◌, List, [], ◌∷◌, ◌++◌, length, slice_get, Option, Some, None, IsSomeAnd, append-nil, append_assoc, refl, sym, ap, subst, ◌∙◌, arith}
-use Rattle.std.specs.List.{list_all, flat_map}
+use Rattle.std.proofs.Common.{◌≡◌, ◌≤◌, ℕ, suc, ◌+◌, Bool, List, [], ◌∷◌, ◌++◌, length, slice_get, Option, Some, None, IsSomeAnd, append-nil, append_assoc, refl, sym, ap, subst, ◌∙◌, arith}
 use Rattle.std.specs.Option.{unwrap_or}
-use Rattle.p9_lang.specs.declared.types.Member.{Member}
-use Rattle.p9_lang.specs.Types.{TypeTree, Tagged, MemberTree, TagTree, Tags, type_of, member_of, members_of}
+use Rattle.p9_lang.specs.Types.{Tagged, MemberTree, TagTree, Tags, type_of}
 use Rattle.p9_lang.specs.TagRules.{NoneContainsItself}
-use Rattle.p9_lang.specs.Layout.{Extent, on_some, rounded, layout, extent, filled, tag_extent, with_member, member_offset, nothing_yet, closed, members_extent, body_extent, size_limit, size_of}
-use Rattle.p9_lang.specs.Members.{Placed, or_empty, placed_from, placed_in_body, placed_in_tag, placed}
+use Rattle.p9_lang.specs.Layout.{Extent, on_some, layout, extent, filled, tag_extent, with_member, member_offset, nothing_yet, closed, members_extent, body_extent, size_limit}
+use Rattle.p9_lang.specs.Members.{Placed, or_empty, placed_from}
 use Rattle.p9_lang.proofs.Layouts.{layout_is_that_of_members}
 use Rattle.p9_lang.proofs.Placing.{rounds_up}
 use Rattle.p9_types.specs.declared.placing.Placing.{Placing}
@@ -15,7 +13,6 @@ use Rattle.p9_types.specs.Capping.{AreAlike, Alike}
 use Rattle.p9_types.specs.Told.{told, told_option}
 use Rattle.p9_types.specs.Sizes.{BodyIsWithin, TagIsWithin, SizesAreWithin, FillsWithin}
 use Rattle.p9_types.specs.Standings.{placing_of, all_placed}
-use Rattle.p9_types.proofs.Laid.{exact_alike}
 
 some_of : {A B : Type 0} (o : Option A) (next : A → Option B) (y : B) → on_some o next ≡ Some y → (x : A) × (o ≡ Some x) × (next x ≡ Some y)
 some_of None next y e = cc

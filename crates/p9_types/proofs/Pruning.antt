@@ -1,15 +1,15 @@
 -- What an earlier level has may be left out: had it what is looked for, that would stand at a lesser level.
-use Rattle.std.proofs.Common.{arith, ◌≡◌, ◌⊎◌, inl, inr, ℕ, zero, suc, ◌+◌, Bool, true, false, not, ◌||◌, nat_eq, if◌then◌else◌, List, [], ◌∷◌, ◌++◌, append-nil, true≢false, refl, sym, ap, subst, ◌∙◌}
-use Rattle.std.specs.List.{flat_map, filter}
+use Rattle.std.proofs.Common.{arith, ◌≡◌, ℕ, zero, suc, ◌+◌, Bool, true, false, ◌||◌, nat_eq, if◌then◌else◌, List, [], ◌∷◌, ◌++◌, append-nil, true≢false, refl, sym, ap, subst, ◌∙◌}
+use Rattle.std.specs.List.{flat_map}
 use Rattle.std.proofs.lemmas.Bool.{eqb-true}
 use Rattle.std.proofs.lemmas.Bool.Decides.{nat_tests}
 use Rattle.std.proofs.lemmas.Grind.{flat_map-append}
 use Rattle.p9_lang.specs.Names.{is_nameless}
-use Rattle.p9_lang.specs.Types.{TypeTree, Void, Char, UChar, Short, UShort, Int, UInt, Long, ULong, Pointer, Array, Function, Tagged, Tags}
+use Rattle.p9_lang.specs.Types.{TypeTree, Tagged, Tags}
 use Rattle.p9_lang.specs.Members.{Part, Placed, Sought, Nowhere, One, Several, or_deeper, offset_if, part_at, unnamed_part, inner_parts, placed, sought, whole}
 use Rattle.p9_types.specs.Levels.{tally, together, stands_at, SameLevel}
-use Rattle.p9_types.proofs.Tallies.{IsUniform, tally_append, together_comm, parted, same_back}
-use Rattle.p9_types.proofs.Descent.{nil_front, nil_back, same_sought}
+use Rattle.p9_types.proofs.Tallies.{IsUniform, tally_append}
+use Rattle.p9_types.proofs.Descent.{nil_front, nil_back}
 
 -- WHAT HOLDS OF ALL STRUCTURES AT A LEVEL
 

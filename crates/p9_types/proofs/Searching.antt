@@ -1,10 +1,10 @@
 -- From one level to the next.
-use Rattle.std.proofs.Common.{◌≡◌, ◌⊎◌, inl, inr, ℕ, zero, suc, Bool, true, false, not, ◌||◌, if◌then◌else◌, List, [], ◌∷◌, ◌++◌, append-nil, true≢false, refl, sym, ap, subst, ◌∙◌}
+use Rattle.std.proofs.Common.{◌≡◌, ℕ, zero, suc, Bool, true, false, not, ◌||◌, if◌then◌else◌, List, [], ◌∷◌, ◌++◌, true≢false, refl, sym, ap, ◌∙◌}
 use Rattle.std.specs.List.{flat_map, filter}
 use Rattle.p9_lang.specs.Types.{Tags}
-use Rattle.p9_lang.specs.Members.{Part, Sought, or_deeper, offset_if, inner_parts, sought, whole}
-use Rattle.p9_types.specs.Levels.{tally, together, stands_at, SameLevel, unmet}
-use Rattle.p9_types.proofs.Tallies.{IsUniform, tally_flat, together_comm, parted, same_back, same_then}
+use Rattle.p9_lang.specs.Members.{Part, or_deeper, offset_if, inner_parts, sought}
+use Rattle.p9_types.specs.Levels.{stands_at, SameLevel, unmet}
+use Rattle.p9_types.proofs.Tallies.{IsUniform, tally_flat, together_comm, parted, same_back}
 use Rattle.p9_types.proofs.Descent.{same_sought}
 use Rattle.p9_types.proofs.Pruning.{AllParts, all_parts, among, all_among, all_same, Hollow, hollow_less, all_zero, hollow_here, absorbed}
 

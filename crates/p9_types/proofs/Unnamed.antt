@@ -1,24 +1,22 @@
 -- The unnamed structures in one, as they come into the next level.
-use Rattle.std.proofs.Common.{◌≡◌, ◌≤◌, ◌<◌, ℕ, zero, suc, ◌+◌, nat_le, nat_eq, Bool, true, false, not, ◌==◌, ◌&&◌, if◌then◌else◌, IsTrue, List, [], ◌∷◌, ◌++◌, length, slice_get, Option, Some, None, append-nil, append_assoc, refl, sym, ap, subst, ◌∙◌, arith}
-use Rattle.std.specs.List.{list_all, flat_map, filter}
+use Rattle.std.proofs.Common.{◌≡◌, ◌≤◌, ℕ, ◌+◌, nat_le, Bool, true, false, not, ◌==◌, if◌then◌else◌, IsTrue, List, [], ◌∷◌, ◌++◌, length, slice_get, Option, Some, None, append-nil, refl, sym, ap, subst, ◌∙◌, arith}
+use Rattle.std.specs.List.{list_all, flat_map}
 use Rattle.std.proofs.lemmas.Bool.Decides.{nat_tests}
 use Rattle.std.proofs.lemmas.Grind.{flat_map-append}
 use Rattle.std.proofs.lemmas.List.Elements.{filter-append}
 use Rattle.p9_lang.specs.Names.{is_nameless}
-use Rattle.p9_lang.specs.Types.{TypeTree, Void, Char, UChar, Short, UShort, Int, UInt, Long, ULong, Pointer, Array, Function, Tagged, MemberTree, TagTree, Tags}
+use Rattle.p9_lang.specs.Types.{TypeTree, Tagged, MemberTree, TagTree, Tags}
 use Rattle.p9_lang.specs.Conversions.{is_structure}
 use Rattle.p9_lang.specs.TagRules.{NoneContainsItself}
-use Rattle.p9_lang.specs.Layout.{Extent, layout, size_of, size_in, size_limit}
-use Rattle.p9_lang.specs.Laws.{IsPlacedIn, ArePlacedIn}
+use Rattle.p9_lang.specs.Layout.{size_of, size_in, size_limit}
+use Rattle.p9_lang.specs.Laws.{ArePlacedIn}
 use Rattle.p9_lang.proofs.Placing.{members_are_placed}
-use Rattle.p9_lang.specs.Members.{Part, Placed, Sought, offset_if, part_at, unnamed_part, inner_parts, placed, placed_in_tag, placed_in_body}
+use Rattle.p9_lang.specs.Members.{Part, Placed, part_at, unnamed_part, inner_parts, placed, placed_in_tag, placed_in_body}
 use Rattle.p9_types.specs.declared.level.Standing.{Standing}
-use Rattle.p9_types.specs.declared.placing.Placing.{Placing}
-use Rattle.p9_types.specs.Levels.{tally, together, stands_at, SameLevel, copies, Adds, unmet, entering}
-use Rattle.p9_types.specs.Sizes.{SizesAreWithin, TagIsWithin, ends_within, begin_within}
-use Rattle.p9_types.specs.Standings.{placing_of, all_placed, part_of, copies_of, spread}
-use Rattle.p9_types.proofs.Tallies.{tally_append, tally_flat, together_swap, same_append, same_then, stands_append}
-use Rattle.p9_types.proofs.Descent.{flat_flat}
+use Rattle.p9_types.specs.Levels.{together, stands_at, SameLevel, copies, Adds, unmet, entering}
+use Rattle.p9_types.specs.Sizes.{SizesAreWithin, ends_within, begin_within}
+use Rattle.p9_types.specs.Standings.{part_of, copies_of, spread}
+use Rattle.p9_types.proofs.Tallies.{together_swap, same_append, stands_append}
 use Rattle.p9_types.proofs.Entries.{adds_then, adds_nothing, all_front, all_back, all_join, both, and_true, copies_all}
 use Rattle.p9_types.proofs.Placings.{sized}
 

@@ -1,8 +1,7 @@
 -- Levels of structures within a structure. A structure may stand at a level more than once; of such
 -- ones it counts only that there are several.
-use Rattle.std.specs.Prelude.{◌≡◌, ℕ, zero, suc, ◌==◌, Bool, true, false, not, IsTrue, if◌then◌else◌, List, [], ◌∷◌, ◌++◌}
+use Rattle.std.specs.Prelude.{◌≡◌, ℕ, Bool, true, false, not, IsTrue, List, [], ◌∷◌, ◌++◌}
 use Rattle.std.specs.List.{flat_map, filter, list_all}
-use Rattle.p9_lang.specs.Types.{Tags}
 use Rattle.p9_lang.specs.Members.{Part, Sought, Nowhere, One, Several, or_deeper, offset_if}
 
 -- what a list has

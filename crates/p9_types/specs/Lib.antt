@@ -6,5 +6,4 @@ pub mod Levels
 pub mod Sightings
 pub mod Standings
 pub mod Sizes
-pub mod Heads
 pub mod Examples

@@ -1,5 +1,5 @@
 -- Structures and unions whose sizes are within the limit.
-use Rattle.std.specs.Prelude.{◌≡◌, ◌≤◌, ℕ, ◌+◌, nat_le, Bool, List, [], ◌∷◌, length, slice_get, Option, Some, None, IsSomeAnd}
+use Rattle.std.specs.Prelude.{◌≤◌, ℕ, ◌+◌, nat_le, Bool, List, length, slice_get, Option, Some, None, IsSomeAnd}
 use Rattle.std.specs.List.{list_all}
 use Rattle.p9_lang.specs.Types.{Tagged, MemberTree, TagTree, Tags}
 use Rattle.p9_lang.specs.Layout.{Extent, layout, filled, tag_extent, size_of, size_limit}

@@ -1,5 +1,5 @@
 -- Members and structures at a level, as plain data.
-use Rattle.std.specs.Prelude.{◌≡◌, ℕ, ◌==◌, ◌||◌, Bool, true, false, not, if◌then◌else◌, List, [], ◌∷◌, ◌++◌, map, nat_eq, Option, Some, None}
+use Rattle.std.specs.Prelude.{ℕ, ◌||◌, Bool, true, false, List, [], ◌∷◌, ◌++◌, nat_eq, Option, Some, None}
 use Rattle.std.specs.HashSet.{contains}
 use Rattle.p9_lang.specs.Types.{type_of}
 use Rattle.p9_lang.specs.Members.{Part, Placed}

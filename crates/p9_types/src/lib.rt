@@ -1,8 +1,7 @@
-//! Types of C: how many bytes their objects have, and how these are aligned.
+//! Types of C: how many bytes their objects have, how these are aligned, and where members stand.
 #![tactic(auto)]
 
 mod capped;
-mod converting;
 mod descending;
 mod elements;
 mod fault;
@@ -14,12 +13,10 @@ mod layouts;
 mod level;
 mod placing;
 mod reaching;
-mod same;
 mod sought;
 #[cfg(test)]
 mod tests;
 
-pub use converting::{Conv, convert};
 pub use fault::TypeFault;
 pub use finding::{Found, find_member};
 pub use laying::layout;

@@ -1,8 +1,9 @@
-ghost use Rattle.std.specs.Prelude.{◌≡◌, IfOk};
-ghost use Rattle.p9_lang.specs.Types.{type_of, member_of, tag_of, tags_of};
-ghost use Rattle.p9_types.specs.Examples.{sample_tag, sample};
+ghost use Rattle.std.specs.Prelude.{◌≡◌, [], IfOk};
+ghost use Rattle.p9_lang.specs.Types.{type_of, member_of, members_of, tag_of, tags_of};
+ghost use Rattle.p9_lang.specs.LayoutExamples.{structure};
+ghost use Rattle.p9_types.specs.Examples.{sample_tag, sample, innermost_tag, enclosing_tag, nested};
 
-use crate::{Conv, Found, Layout, TypeFault, convert, find_member, layout};
+use crate::{Found, Layout, TypeFault, find_member, layout};
 use p9_base::NoMemory;
 use p9_lang::{CType, Ident, Member, Tag, Tags};
 use sqlite_items::{Boxed, Items};
@@ -84,120 +85,86 @@ fn sizes_at_the_limit(rt: HostRuntime) -> Result<(), Fail> {
     Ok(())
 }
 
-fn structure(alloc: Global, first: Member, second: Option<Member>) -> Result<Tag, NoMemory> {
-    let mut members = Items::new(alloc);
-    members.push(first)?;
-    if let Some(second) = second {
-        members.push(second)?;
-    }
-    Ok(Tag {
+fn structure(alloc: Global, members: Items<Member>) -> Tag
+    ensures { tag_of result ≡ structure [] (members_of members) }
+{
+    Tag {
         is_union: false,
         name: Ident {
             list: Vec::new(alloc),
         },
         members: Some(members),
         marked: false,
-    })
+    }
 }
 
-// `struct A { int k; }; struct B { int k; }; struct C { struct A; struct B; }; struct D { struct C; int j; }`
-fn nested(alloc: Global) -> Result<Tags, NoMemory> {
+// `struct { int k; }`
+fn innermost(alloc: Global) -> Result<Tag, NoMemory>
+    ensures { IfOk result (λ t. tag_of t ≡ innermost_tag) }
+{
+    let mut members = Items::new(alloc);
+    members.push(member(alloc, b"k", CType::Int)?)?;
+    Ok(structure(alloc, members))
+}
+
+// The structure of two unnamed ones.
+fn enclosing(alloc: Global) -> Result<Tag, NoMemory>
+    ensures { IfOk result (λ t. tag_of t ≡ enclosing_tag) }
+{
+    let mut members = Items::new(alloc);
+    members.push(member(alloc, b"", CType::Tagged(0))?)?;
+    members.push(member(alloc, b"", CType::Tagged(1))?)?;
+    Ok(structure(alloc, members))
+}
+
+// `struct A { int k; }; struct B { int k; }; struct C { struct A; struct B; };`
+fn nested(alloc: Global) -> Result<Tags, NoMemory>
+    ensures { IfOk result (λ t. tags_of t.list ≡ nested) }
+{
     let mut list = Items::new(alloc);
-    list.push(structure(alloc, member(alloc, b"k", CType::Int)?, None)?)?;
-    list.push(structure(alloc, member(alloc, b"k", CType::Int)?, None)?)?;
-    list.push(structure(
-        alloc,
-        member(alloc, b"", CType::Tagged(0))?,
-        Some(member(alloc, b"", CType::Tagged(1))?),
-    )?)?;
-    list.push(structure(
-        alloc,
-        member(alloc, b"", CType::Tagged(2))?,
-        Some(member(alloc, b"j", CType::Int)?),
-    )?)?;
+    list.push(innermost(alloc)?)?;
+    list.push(innermost(alloc)?)?;
+    list.push(enclosing(alloc)?)?;
     Ok(Tags { list })
 }
 
-fn found(alloc: Global, tags: &Tags, tag: u32, name: &[u8]) -> Result<Found, NoMemory> {
+fn sample_member(alloc: Global, name: &[u8]) -> Result<Found, NoMemory> {
+    let tags = sample(alloc, false)?;
     let name = Ident {
         list: Vec::from_slice(alloc, name)?,
     };
-    find_member(alloc, tags, tag, &name)
+    find_member(alloc, &tags, 0, &name)
+}
+
+fn nested_member(alloc: Global, tag: u32, name: &[u8]) -> Result<Found, NoMemory> {
+    let tags = nested(alloc)?;
+    let name = Ident {
+        list: Vec::from_slice(alloc, name)?,
+    };
+    find_member(alloc, &tags, tag, &name)
+}
+
+fn at(offset: u32, member: u32) -> Found {
+    Found::At {
+        offset,
+        tag: 0,
+        member,
+    }
 }
 
 #[test]
 fn members(rt: HostRuntime) -> Result<(), Fail> {
-    let tags = sample(rt.alloc(), false)?;
-    assert_eq!(rt;
-        found(rt.alloc(), &tags, 0, b"c")?,
-        Found::At {
-            offset: 0,
-            tag: 0,
-            member: 0
-        }
-    );
-    assert_eq!(rt;
-        found(rt.alloc(), &tags, 0, b"n")?,
-        Found::At {
-            offset: 4,
-            tag: 0,
-            member: 1
-        }
-    );
-    assert_eq!(rt;
-        found(rt.alloc(), &tags, 0, b"s")?,
-        Found::At {
-            offset: 8,
-            tag: 0,
-            member: 2
-        }
-    );
-    assert_eq!(rt; found(rt.alloc(), &tags, 0, b"x")?, Found::Missing);
-    assert_eq!(rt; found(rt.alloc(), &tags, 1, b"x")?, Found::Incomplete);
-    let tags = nested(rt.alloc())?;
-    assert_eq!(rt; found(rt.alloc(), &tags, 2, b"k")?, Found::Ambiguous);
-    assert_eq!(rt; found(rt.alloc(), &tags, 3, b"k")?, Found::Ambiguous);
-    assert_eq!(rt;
-        found(rt.alloc(), &tags, 3, b"j")?,
-        Found::At {
-            offset: 8,
-            tag: 3,
-            member: 1
-        }
-    );
+    assert_eq!(rt; sample_member(rt.alloc(), b"c")?, at(0, 0));
+    assert_eq!(rt; sample_member(rt.alloc(), b"n")?, at(4, 1));
+    assert_eq!(rt; sample_member(rt.alloc(), b"s")?, at(8, 2));
+    assert_eq!(rt; sample_member(rt.alloc(), b"x")?, Found::Missing);
     Ok(())
 }
 
-fn pointer(alloc: Global, target: CType) -> Result<CType, NoMemory> {
-    Ok(CType::Pointer(Boxed::new(alloc, target)?))
-}
-
 #[test]
-fn conversions(rt: HostRuntime) -> Result<(), Fail> {
-    let alloc = rt.alloc();
-    let tags = nested(alloc)?;
-    let c = pointer(alloc, CType::Tagged(2))?;
-    let b = pointer(alloc, CType::Tagged(1))?;
-    let d = pointer(alloc, CType::Tagged(3))?;
-    let void = pointer(alloc, CType::Void)?;
-    let function = pointer(
-        alloc,
-        CType::Function(Boxed::new(alloc, CType::Int)?, Items::new(alloc)),
-    )?;
-    assert_eq!(rt; convert(alloc, &c, &b, &tags, false)?, Conv::Inner(4));
-    assert_eq!(rt; convert(alloc, &d, &b, &tags, false)?, Conv::Inner(4));
-    assert_eq!(rt; convert(alloc, &b, &c, &tags, false)?, Conv::No);
-    assert_eq!(rt; convert(alloc, &b, &b, &tags, false)?, Conv::Same);
-    assert_eq!(rt; convert(alloc, &void, &b, &tags, false)?, Conv::Same);
-    assert_eq!(rt; convert(alloc, &void, &function, &tags, false)?, Conv::No);
-    assert_eq!(rt;
-        convert(alloc, &function, &function, &tags, false)?,
-        Conv::Same
-    );
-    assert_eq!(rt;
-        convert(alloc, &CType::Int, &CType::Char, &tags, false)?,
-        Conv::Integer
-    );
-    assert_eq!(rt; convert(alloc, &CType::Int, &b, &tags, true)?, Conv::Null);
+fn unnamed_structures(rt: HostRuntime) -> Result<(), Fail> {
+    assert_eq!(rt; nested_member(rt.alloc(), 2, b"k")?, Found::Ambiguous);
+    assert_eq!(rt; nested_member(rt.alloc(), 0, b"k")?, at(0, 0));
+    assert_eq!(rt; nested_member(rt.alloc(), 3, b"k")?, Found::Incomplete);
     Ok(())
 }

@@ -1,6 +1,6 @@
-use Rattle.std.proofs.Common.{◌≡◌, ◌-◌, ◌∷◌, [], IsTrue, List, length, take, drop, sym, ap, subst}
+use Rattle.std.proofs.Common.{◌≡◌, ◌-◌, ◌∷◌, IsTrue, List, length, take, drop, sym, subst}
 use Rattle.std.specs.List.{flat_map}
-use Rattle.p9_lang.specs.Members.{Part, unnamed_part}
+use Rattle.p9_lang.specs.Members.{unnamed_part}
 use Rattle.p9_types.specs.declared.placing.Placing.{Placing}
 use Rattle.p9_types.specs.Sizes.{begin_within}
 use Rattle.p9_types.specs.Levels.{Adds, entering}

@@ -1,7 +1,5 @@
-use Rattle.std.proofs.Common.{◌≡◌, sym, ap, ◌∙◌}
+use Rattle.std.proofs.Common.{ap, ◌∙◌}
 use Rattle.p9_lang.specs.Types.{tags_of}
-use Rattle.p9_lang.specs.Members.{unnamed_part}
-use Rattle.p9_types.specs.Levels.{Adds, entering}
 use Rattle.p9_types.specs.Standings.{all_placed, part_of}
 use Rattle.p9_types.proofs.Unnamed.{begins}
 use Rattle.p9_types.proofs.descending.enter.Goals as goal

@@ -1,4 +1,4 @@
-use Rattle.std.proofs.Common.{◌≡◌, ◌||◌, [], ◌∷◌, length, refl, sym, ap, subst, ◌∙◌, arith}
+use Rattle.std.proofs.Common.{◌||◌, [], ◌∷◌, length, refl, sym, ap, subst, ◌∙◌, arith}
 use Rattle.p9_lang.specs.Types.{tags_of}
 use Rattle.p9_lang.specs.Members.{sought, whole, inner_parts}
 use Rattle.p9_types.specs.Levels.{tally, unmet, Adds}
@@ -7,7 +7,7 @@ use Rattle.std.specs.List.{flat_map}
 use Rattle.p9_types.specs.Sightings.{told_sought, named_places}
 use Rattle.p9_types.proofs.Advancing.{first_sound}
 use Rattle.p9_types.proofs.NamedMembers.{names_uniform, there}
-use Rattle.p9_types.proofs.Loops.{Searches, searches_next, searched, searched_through, starts, length_tags, whole_ends, all_small}
+use Rattle.p9_types.proofs.Loops.{searches_next, searched, searched_through, starts, length_tags, whole_ends, all_small}
 use Rattle.p9_types.proofs.finding.find_by_levels.Goals as goal
 
 pub levels-init : goal.levels-init

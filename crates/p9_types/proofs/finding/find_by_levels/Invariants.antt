@@ -1,4 +1,4 @@
-use Rattle.std.proofs.Common.{◌≡◌, [], ◌∷◌, IsTrue, length}
+use Rattle.std.proofs.Common.{[], ◌∷◌, IsTrue, length}
 use Rattle.std.specs.List.{list_all}
 use Rattle.p9_lang.specs.Types.{tags_of}
 use Rattle.p9_lang.specs.Members.{sought, whole}

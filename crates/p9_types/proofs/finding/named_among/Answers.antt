@@ -1,4 +1,4 @@
-use Rattle.std.proofs.Common.{◌≡◌, ◌-◌, ◌∷◌, [], IsTrue, List, length, take, drop, refl, sym, ap, subst, ◌∙◌}
+use Rattle.std.proofs.Common.{◌≡◌, ◌-◌, ◌∷◌, IsTrue, List, length, take, drop, ap, subst}
 use Rattle.p9_types.specs.declared.placing.Placing.{Placing}
 use Rattle.p9_types.specs.Sizes.{begin_within}
 use Rattle.p9_types.specs.Levels.{tally, together}

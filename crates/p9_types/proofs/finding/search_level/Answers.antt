@@ -1,10 +1,10 @@
-use Rattle.std.proofs.Common.{◌≡◌, ◌-◌, ◌∷◌, [], IsTrue, List, length, take, drop, get_or, false, sym, ap, subst}
+use Rattle.std.proofs.Common.{◌≡◌, ◌-◌, ◌∷◌, IsTrue, List, length, take, drop, get_or, false, subst}
 use Rattle.std.specs.List.{flat_map, list_all}
 use Rattle.p9_lang.specs.Types.{tags_of}
 use Rattle.p9_types.specs.declared.level.Standing.{Standing}
 use Rattle.p9_types.specs.Sizes.{ends_within}
 use Rattle.p9_types.specs.Levels.{tally, together}
-use Rattle.p9_types.specs.Standings.{part_of, spread}
+use Rattle.p9_types.specs.Standings.{spread}
 use Rattle.p9_types.specs.Sightings.{told_sought, named_places}
 use Rattle.p9_types.proofs.Lists.{first_or, empty_below}
 use Rattle.p9_types.proofs.Unnamed.{within_first, within_others}

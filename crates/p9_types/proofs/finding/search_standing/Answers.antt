@@ -1,4 +1,4 @@
-use Rattle.std.proofs.Common.{sym, ap, ◌∙◌}
+use Rattle.std.proofs.Common.{ap, ◌∙◌}
 use Rattle.p9_lang.specs.Types.{tags_of}
 use Rattle.p9_types.specs.Levels.{tally}
 use Rattle.p9_types.specs.Standings.{all_placed, part_of}

@@ -1,6 +1,6 @@
 use Rattle.std.proofs.Common.{◌≡◌, ◌++◌, ◌-◌, ◌∷◌, List, length, take, drop, refl, subst}
 use Rattle.p9_lang.specs.declared.types.Member.{Member}
-use Rattle.p9_lang.specs.Types.{MemberTree, member_of, members_of, tags_of}
+use Rattle.p9_lang.specs.Types.{member_of, members_of, tags_of}
 use Rattle.p9_lang.specs.Layout.{nothing_yet}
 use Rattle.p9_lang.specs.Members.{placed_from}
 use Rattle.p9_types.specs.Told.{told}

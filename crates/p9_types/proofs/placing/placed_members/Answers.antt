@@ -1,7 +1,5 @@
 use Rattle.std.proofs.Common.{Some, sym, ap, ◌∙◌}
 use Rattle.p9_lang.specs.Types.{members_of, body_of, tag_of, tags_of}
-use Rattle.p9_lang.specs.Layout.{nothing_yet}
-use Rattle.p9_types.specs.Sizes.{FillsWithin}
 use Rattle.p9_types.proofs.Placings.{tag_fills}
 use Rattle.p9_types.proofs.placing.placed_members.Goals as goal
 

@@ -1,4 +1,4 @@
-use Rattle.std.proofs.Common.{◌≡◌, ◌||◌, ℕ, nat_eq, length}
+use Rattle.std.proofs.Common.{◌≡◌, ◌||◌, ℕ, length}
 use Rattle.p9_types.specs.Standings.{stands_in, met_by}
 use Rattle.p9_types.proofs.level.MetTags.meet_all.Given as goal
 
