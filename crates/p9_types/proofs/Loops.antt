@@ -1,15 +1,15 @@
 -- Searches level by level, as loops over levels.
-use Rattle.std.proofs.Common.{◌≡◌, ◌≤◌, ◌<◌, ℕ, zero, suc, ◌+◌, ◌-◌, nat_le, nat_eq, Bool, true, false, ◌||◌, ◌&&◌, IsTrue, List, [], ◌∷◌, ◌++◌, length, slice_get, Option, Some, None, refl, sym, ap, subst, ◌∙◌, arith}
+use Rattle.std.proofs.Common.{◌≡◌, ◌≤◌, ◌<◌, ℕ, zero, suc, ◌+◌, ◌-◌, nat_le, nat_eq, Bool, true, false, ◌||◌, ◌&&◌, IsTrue, if◌then◌else◌, List, [], ◌∷◌, ◌++◌, length, slice_get, Option, Some, None, append-nil, refl, sym, ap, subst, ◌∙◌, arith}
 use Rattle.std.specs.List.{flat_map, list_all}
 use Rattle.std.proofs.lemmas.Bool.Decides.{nat_tests}
 use Rattle.p9_lang.specs.declared.types.Tag.{Tag}
 use Rattle.p9_lang.specs.Types.{Tagged, MemberTree, TagTree, Tags, tags_of}
 use Rattle.p9_lang.specs.Layout.{size_of, size_limit, layout, size_in, body_extent, members_extent}
-use Rattle.p9_lang.specs.Members.{Part, Sought, Nowhere, One, Several, or_deeper, sought, inner_parts, whole}
+use Rattle.p9_lang.specs.Members.{Part, Sought, Nowhere, One, Several, or_deeper, offset_if, sought, inner_parts, find_substructure, whole}
 use Rattle.p9_types.specs.declared.level.Standing.{Standing}
-use Rattle.p9_types.specs.Levels.{tally, copies, unmet, Adds}
+use Rattle.p9_types.specs.Levels.{tally, stands_at, copies, together, unmet, Adds}
 use Rattle.p9_types.specs.Sizes.{SizesAreWithin, ends_within}
-use Rattle.p9_types.specs.Standings.{part_of, spread, stands_in}
+use Rattle.p9_types.specs.Standings.{part_of, copies_of, spread, stands_in}
 use Rattle.p9_lang.specs.TagRules.{NoneContainsItself}
 use Rattle.p9_lang.proofs.Layouts.{layout_is_that_of_members}
 use Rattle.p9_types.proofs.Placings.{sized}
@@ -130,3 +130,72 @@ all_small tags ends sizes i = by_tag (slice_get tags i) refl
     by_tag : (o : Option TagTree) → slice_get tags i ≡ o → size_of tags (Tagged i) ≤ 16777216
     by_tag None e = bare (layout_is_that_of_members tags i ends ∙ ap (body_extent (λ j. layout tags (Tagged j))) e)
     by_tag (Some tag) e = by_body tag e tag.members refl
+
+-- A SEARCH THAT BEGINS BELOW THE FIRST LEVEL
+
+pub offset_uniform : (j : ℕ) → IsUniform (offset_if j)
+offset_uniform j p q e h = by (nat_eq p.tag j) refl h
+  where
+    by : (b : Bool) → nat_eq p.tag j ≡ b → (if b then p.offset ∷ [] else []) ≡ [] → offset_if j q ≡ []
+    by true f g = cc
+    by false f g = ap (λ b. if b then q.offset ∷ [] else []) (ap (λ t. nat_eq t j) (sym e) ∙ f)
+
+not_first : (i j : ℕ) → nat_eq i j ≡ false → flat_map (offset_if j) (whole i ∷ []) ≡ []
+not_first i j e = ap (λ b. (if b then 0 ∷ [] else []) ++ []) e
+
+pub starts_below : (tags : Tags) (depth i j : ℕ) (met : ℕ → Bool) (none level : List Standing) → nat_eq i j ≡ false → none ≡ []
+    → level ≡ none ++ record { tag = i; offset = 0; several = false } ∷ [] → depth ≡ length tags → ((k : ℕ) → met k ≡ false)
+    → Searches tags (offset_if j) (find_substructure tags i j) (suc depth) met (spread level) × (stands_at j (spread level) ≡ Nowhere)
+starts_below tags depth i j met none level a e f g h = (
+  record {
+    covers = nothing_met tags (offset_if j) met (spread level) h;
+    finds = ap (λ l. sought (suc depth) tags (offset_if j) l) first
+        ∙ ap (λ l. or_deeper l (sought depth tags (offset_if j) (inner_parts tags (whole i) ++ []))) (not_first i j a)
+        ∙ ap (λ l. sought depth tags (offset_if j) l) (append-nil (inner_parts tags (whole i)))
+        ∙ ap (λ d. sought d tags (offset_if j) (inner_parts tags (whole i))) g;
+  },
+  ap (stands_at j) first ∙ ap tally (not_first i j a),
+)
+  where
+    first : spread level ≡ whole i ∷ []
+    first = ap spread (f ∙ ap (λ l. l ++ record { tag = i; offset = 0; several = false } ∷ []) e)
+
+pub ends_below : (tags : Tags) (j : ℕ) (goal : Sought ℕ) (depth : ℕ) (met : ℕ → Bool) (level : List Part) → Searches tags (offset_if j) goal (suc depth) met level
+    → depth ≡ 0 → stands_at j level ≡ Nowhere → goal ≡ Nowhere
+ends_below tags j goal depth met level s e none =
+    sym s.finds ∙ ap (λ l. or_deeper l (sought depth tags (offset_if j) (flat_map (inner_parts tags) level))) (tally_bare (flat_map (offset_if j) level) none)
+    ∙ ap (λ d. sought d tags (offset_if j) (flat_map (inner_parts tags) level)) e
+
+pub goes_on : {A : Type 0} (tags : Tags) (has : Part → List A) (goal : Sought A) (depth next : ℕ) (met : ℕ → Bool) (level : List Part) → Searches tags has goal depth met level
+    → 0 < depth → next ≡ depth - 1 → Searches tags has goal (suc next) met level
+goes_on tags has goal depth next met level s lt e = subst (λ d. Searches tags has goal d met level) deeper s
+  where
+    deeper : depth ≡ suc next
+    deeper = omega arith
+
+pub stands_here : (j : ℕ) (s : Standing) (found : Sought ℕ) → nat_eq s.tag j ≡ true
+    → found ≡ (if s.several then together (One s.offset) (One s.offset) else One s.offset) → found ≡ stands_at j (copies_of s)
+stands_here j s found e f = f ∙ by s.several
+  where
+    by : (b : Bool) → (if b then together (One s.offset) (One s.offset) else One s.offset) ≡ stands_at j (copies b (part_of s))
+    by true = sym (ap (λ c. tally ((if c then s.offset ∷ [] else []) ++ ((if c then s.offset ∷ [] else []) ++ []))) e)
+    by false = sym (ap (λ c. tally ((if c then s.offset ∷ [] else []) ++ [])) e)
+
+pub stands_elsewhere : (j : ℕ) (s : Standing) → nat_eq s.tag j ≡ false → Nowhere ≡ stands_at j (copies_of s)
+stands_elsewhere j s e = by s.several
+  where
+    by : (b : Bool) → Nowhere ≡ stands_at j (copies b (part_of s))
+    by true = sym (ap (λ c. tally ((if c then s.offset ∷ [] else []) ++ ((if c then s.offset ∷ [] else []) ++ []))) e)
+    by false = sym (ap (λ c. tally ((if c then s.offset ∷ [] else []) ++ [])) e)
+
+-- the level below one that has nothing
+pub below : (tags : Tags) (j : ℕ) (goal : Sought ℕ) (depth : ℕ) (met later : ℕ → Bool) (list level : List Standing) (M : List Part)
+    → Searches tags (offset_if j) goal (suc depth) met (spread level) → stands_at j (spread level) ≡ Nowhere → list ≡ level
+    → ((i : ℕ) → later i ≡ (stands_in i list || met i)) → Adds [] (unmet later (flat_map (inner_parts tags) (spread list))) M → Searches tags (offset_if j) goal depth later M
+below tags j goal depth met later list level M s none e meets a =
+    searches_next tags (offset_if j) goal (suc depth) depth met later level M (offset_uniform j) s (omega arith) (omega arith) none
+    (λ i. meets i ∙ ap (λ ss. stands_in i ss || met i) e)
+    (subst (λ ss. Adds [] (unmet later (flat_map (inner_parts tags) (spread ss))) M) e a)
+
+pub unequal : (i j : ℕ) → (i ≡ j → ⊥) → nat_eq i j ≡ false
+unequal i j f = grind (arith, nat_tests)

@@ -14,6 +14,7 @@ mod level;
 mod placing;
 mod reaching;
 mod sought;
+mod substructure;
 #[cfg(test)]
 mod tests;
 
@@ -21,3 +22,5 @@ pub use fault::TypeFault;
 pub use finding::{Found, find_member};
 pub use laying::layout;
 pub use layouts::Layout;
+pub use sought::Sought;
+pub use substructure::find_substructure;

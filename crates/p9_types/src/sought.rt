@@ -4,8 +4,8 @@ ghost use Rattle.p9_types.specs.Levels.{together};
 ghost use Rattle.p9_types.specs.Sightings.{told_sought};
 
 /// Where something stands: nowhere, at one place, or at several.
-#[derive(Clone, Copy, Drop)]
-pub(crate) enum Sought<T> {
+#[derive(Clone, Copy, Drop, PartialEq, Eq, Debug)]
+pub enum Sought<T> {
     Nowhere,
     One(T),
     Several,

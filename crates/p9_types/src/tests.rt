@@ -3,7 +3,7 @@ ghost use Rattle.p9_lang.specs.Types.{type_of, member_of, members_of, tag_of, ta
 ghost use Rattle.p9_lang.specs.LayoutExamples.{structure};
 ghost use Rattle.p9_types.specs.Examples.{sample_tag, sample, innermost_tag, enclosing_tag, nested};
 
-use crate::{Found, Layout, TypeFault, find_member, layout};
+use crate::{Found, Layout, Sought, TypeFault, find_member, find_substructure, layout};
 use p9_base::NoMemory;
 use p9_lang::{CType, Ident, Member, Tag, Tags};
 use sqlite_items::{Boxed, Items};
@@ -144,6 +144,12 @@ fn nested_member(alloc: Global, tag: u32, name: &[u8]) -> Result<Found, NoMemory
     find_member(alloc, &tags, tag, &name)
 }
 
+// Where the second structure stands in the third.
+fn second_in_third(alloc: Global) -> Result<Sought<u32>, NoMemory> {
+    let tags = nested(alloc)?;
+    find_substructure(alloc, &tags, 2, 1)
+}
+
 fn at(offset: u32, member: u32) -> Found {
     Found::At {
         offset,
@@ -166,5 +172,6 @@ fn unnamed_structures(rt: HostRuntime) -> Result<(), Fail> {
     assert_eq!(rt; nested_member(rt.alloc(), 2, b"k")?, Found::Ambiguous);
     assert_eq!(rt; nested_member(rt.alloc(), 0, b"k")?, at(0, 0));
     assert_eq!(rt; nested_member(rt.alloc(), 3, b"k")?, Found::Incomplete);
+    assert_eq!(rt; second_in_third(rt.alloc())?, Sought::One(4));
     Ok(())
 }
