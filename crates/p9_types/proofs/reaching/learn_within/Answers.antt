@@ -4,14 +4,14 @@ use Rattle.p9_types.specs.Reaching.{inner_of}
 use Rattle.p9_types.specs.Tasks.{Covered, AreCovered}
 use Rattle.p9_types.proofs.Lists.{empty_by_length}
 use Rattle.p9_types.proofs.Weights.{all_along}
-use Rattle.p9_types.proofs.Advancing.{first_sound, first_awaits, first_covered, covered_last}
-use Rattle.p9_types.proofs.reaching.known_within.Goals as goal
+use Rattle.p9_types.proofs.Advancing.{first_awaits, first_covered, covered_last}
+use Rattle.p9_types.proofs.reaching.learn_within.Goals as goal
 
 pub inwards-init : goal.inwards-init
 inwards-init c = record {
-  sound = first_sound (tags_of c.args.tags.now) c.new-known.result.map.entries c.new-known.ensures;
-  awaits = first_awaits (tags_of c.args.tags.now) c.new-known.result.map.entries c.new-tasks.result.items c.push_visit.new.tasks.items (inner_of (type_of c.args.ty.now)) c.new-tasks.ensures.items c.in_ok-push_visit.ensures;
-  covered = first_covered c.new-known.result.map.entries c.new-tasks.result.items c.push_visit.new.tasks.items (inner_of (type_of c.args.ty.now)) c.new-tasks.ensures.items c.in_ok-push_visit.ensures;
+  sound = c.requires.sound;
+  awaits = first_awaits (tags_of c.args.tags.now) c.args.known.now.map.entries c.new-tasks.result.items c.push_visit.new.tasks.items (inner_of (type_of c.args.ty.now)) c.new-tasks.ensures.items c.in_ok-push_visit.ensures;
+  covered = first_covered c.args.known.now.map.entries c.new-tasks.result.items c.push_visit.new.tasks.items (inner_of (type_of c.args.ty.now)) c.new-tasks.ensures.items c.in_ok-push_visit.ensures;
 }
 
 pub inwards-preserved : goal.inwards-preserved

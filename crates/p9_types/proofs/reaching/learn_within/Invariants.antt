@@ -2,7 +2,7 @@ use Rattle.p9_lang.specs.Types.{type_of, tags_of}
 use Rattle.p9_types.specs.Reaching.{inner_of}
 use Rattle.p9_types.specs.Told.{IsSound}
 use Rattle.p9_types.specs.Tasks.{AreCovered, Awaits, work}
-use Rattle.p9_types.proofs.reaching.known_within.Given as goal
+use Rattle.p9_types.proofs.reaching.learn_within.Given as goal
 
 abbrev pub invariant-inwards : goal.invariant-inwards
 invariant-inwards l = record {
