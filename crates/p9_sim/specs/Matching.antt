@@ -51,7 +51,8 @@ pub record Match (g : Ground) (shut : ℕ → Bool) (active : ℕ) (m : Map) (s 
   pub bytes : AreBytes x.left
   pub laid : IsLaidOut x
   pub data_start : x.core.data_start ≡ g.data_start
-  -- words have their highest byte first, and the machine hasn't stopped
+  -- between data and the stack is a gap; words have their highest byte first; the machine hasn't stopped
+  pub gap : low_end x.core < stack_start
   pub order : x.core.order ≡ Big
   pub running : x.core.ending ≡ Running
 
