@@ -169,6 +169,7 @@ match-alike g shut other apart active m s x y free k h = record {
   bytes = subst AreBytes k.memory.input h.bytes;
   laid = laid-alike apart x y k.memory h.laid;
   data_start = sym k.memory.data_start ∙ h.data_start;
+  behind = h.behind;
   gap = (let low = k.memory.low in let up = h.gap in omega (arith, low, up));
   order = sym k.memory.order ∙ h.order;
   running = k.ending ∙ h.running;

@@ -351,6 +351,7 @@ module _ (base : Setting) (around_a around_b : Around) (def_a def_b : TextDef) (
             bytes = q.bytes;
             laid = q.laid;
             data_start = q.data_start;
+            behind = q.behind;
             gap = q.gap;
             order = q.order;
             running = q.running;

@@ -193,6 +193,7 @@ entries_are_matched g others active need m call s x def at frame room_is fits =
         bytes = subst AreBytes (sym e.left) h.bytes;
         laid = e.laid;
         data_start = e.sizes.data_start ∙ h.data_start;
+        behind = h.behind;
         gap = (let low = e.sizes.low in let up = h.gap in omega (arith, low, up));
         order = e.sizes.order ∙ h.order;
         running = e.ending ∙ h.running;

@@ -1,11 +1,12 @@
 -- Bytes of memory that lie together: which may be read and written, and what stands there.
-use Rattle.std.proofs.Common.{◌≡◌, ◌≤◌, ◌<◌, ◌⊎◌, inl, inr, ℕ, zero, suc, ◌+◌, ◌-◌, ◌%◌, ◌/◌, ◌*◌, ◌^◌, nat_le, nat_lt, Bool, true, false, if◌then◌else◌, List, [], ◌∷◌, ◌++◌, length, take, drop, slice_index, slice_set, refl, sym, ap, ◌∙◌, subst, arith, length-append, length-drop}
+use Rattle.std.proofs.Common.{◌≡◌, ◌≤◌, ◌<◌, ◌⊎◌, inl, inr, ℕ, ◌+◌, ◌-◌, ◌%◌, ◌/◌, ◌*◌, ◌^◌, nat_lt, Bool, true, false, if◌then◌else◌, List, [], ◌∷◌, ◌++◌, length, take, drop, slice_index, slice_set, refl, sym, ap, ◌∙◌, subst, arith, length-append, length-drop}
 use Rattle.std.proofs.lemmas.Bool.Decides.{nat_tests}
 use Rattle.std.proofs.lemmas.List.{get_or-set_same, get_or-set_other, length-set, get_or-take, get_or-drop, length-take-le, get_or_append_left, get_or-append-add, ext_get_or}
 use Rattle.std.proofs.Math.Seq.{get_or-append_right}
 use Rattle.p9_base.specs.declared.order.ByteOrder.TheVariants.{Big}
 use Rattle.p9_base.specs.Core.{Core, text_start, stack_start, stack_end, low_end, reg, readable, writable, word_in, with_four, with_word_in, read_byte, read_word, bytes_from, over, with_bytes}
 use Rattle.p9_base.specs.Holding.{LaidOut}
+use Rattle.p9_base.proofs.Kept.{over-none}
 use Rattle.p9_sim.specs.Matching.{Lies}
 
 -- WHERE BYTES LIE
@@ -179,12 +180,12 @@ over-length bytes i xs h =
 -- what a machine with other bytes from an address on reads
 pub record IsFilled (x : Core) (a : ℕ) (xs : List ℕ) (y : Core) : Type 0 where
   pub within : (j : ℕ) → j < length xs → read_byte y (a + j) ≡ slice_index xs j
-  pub outside : (byte : ℕ) → text_start ≤ byte → (byte < a) ⊎ (a + length xs ≤ byte) → read_byte y byte ≡ read_byte x byte
+  pub outside : (byte : ℕ) → (byte < a) ⊎ (a + length xs ≤ byte) → read_byte y byte ≡ read_byte x byte
   pub low : length y.low ≡ length x.low
   pub stack : length y.stack ≡ length x.stack
 
-pub filled-of : (x : Core) (a : ℕ) (xs : List ℕ) → LaidOut x → 0 < length xs → Spans x a (length xs) → IsFilled x a xs (with_bytes x a xs)
-filled-of x a xs laid some (inl h) =
+pub filled-of : (x : Core) (a : ℕ) (xs : List ℕ) → LaidOut x → text_start < x.data_start → 0 < length xs → Spans x a (length xs) → IsFilled x a xs (with_bytes x a xs)
+filled-of x a xs laid behind some (inl h) =
     let h0 = h.0 in let h1 = h.1 in let t = laid.text in let g = laid.gap in let u = laid.above in
     let i : ℕ = a - text_start in
     let e : nat_lt a stack_start ≡ true = (let l : a < stack_start = omega (arith, h1, u, some) in grind (arith, nat_tests)) in
@@ -192,20 +193,20 @@ filled-of x a xs laid some (inl h) =
     let y : Core = record x { low = over x.low i xs } in
     let r : IsFilled x a xs y = record {
       within = λ j l. (let q : a + j - text_start ≡ i + j = omega (arith, h0, t, g) in byte-low y (a + j) (omega (arith, l, h1, u)) ∙ (ap (slice_index y.low) q ∙ over-within x.low i xs j (omega (arith, fits)) l));
-      outside = λ byte at w. away byte at w (split byte stack_start) i fits refl;
+      outside = λ byte w. away byte w (split byte stack_start) i fits refl;
       low = over-length x.low i xs fits;
       stack = refl;
     } in
     subst (IsFilled x a xs) (sym (ap (λ b. if b then y else record x { stack = over x.stack (a - stack_start) xs }) e)) r
   where
-    away : (byte : ℕ) → text_start ≤ byte → (byte < a) ⊎ (a + length xs ≤ byte) → (byte < stack_start) ⊎ (stack_start ≤ byte) → (i : ℕ) → i + length xs ≤ length x.low → a - text_start ≡ i
+    away : (byte : ℕ) → (byte < a) ⊎ (a + length xs ≤ byte) → (byte < stack_start) ⊎ (stack_start ≤ byte) → (i : ℕ) → i + length xs ≤ length x.low → a - text_start ≡ i
         → read_byte (record x { low = over x.low i xs }) byte ≡ read_byte x byte
-    away byte at (inl l) (inl d) i fits e = byte-low (record x { low = over x.low i xs }) byte d ∙ (over-before x.low i xs (byte - text_start) (omega (arith, fits)) (omega (arith, e, l, at)) ∙ sym (byte-low x byte d))
-    away byte at (inr l) (inl d) i fits e =
+    away byte (inl l) (inl d) i fits e = let h0 = h.0 in byte-low (record x { low = over x.low i xs }) byte d ∙ (over-before x.low i xs (byte - text_start) (omega (arith, fits)) (omega (arith, e, l, h0, behind)) ∙ sym (byte-low x byte d))
+    away byte (inr l) (inl d) i fits e =
         let h0 = h.0 in let t = laid.text in let g = laid.gap in
-        byte-low (record x { low = over x.low i xs }) byte d ∙ (over-behind x.low i xs (byte - text_start) (omega (arith, fits)) (omega (arith, e, l, at, h0, t, g)) ∙ sym (byte-low x byte d))
-    away byte at w (inr d) i fits e = byte-high (record x { low = over x.low i xs }) byte d ∙ sym (byte-high x byte d)
-filled-of x a xs laid some (inr h) =
+        byte-low (record x { low = over x.low i xs }) byte d ∙ (over-behind x.low i xs (byte - text_start) (omega (arith, fits)) (omega (arith, e, l, h0, t, g)) ∙ sym (byte-low x byte d))
+    away byte w (inr d) i fits e = byte-high (record x { low = over x.low i xs }) byte d ∙ sym (byte-high x byte d)
+filled-of x a xs laid behind some (inr h) =
     let h0 = h.0 in let h1 = h.1 in let s = laid.stack_size in
     let i : ℕ = a - stack_start in
     let e : nat_lt a stack_start ≡ false = grind (arith, nat_tests) in
@@ -213,19 +214,30 @@ filled-of x a xs laid some (inr h) =
     let y : Core = record x { stack = over x.stack i xs } in
     let r : IsFilled x a xs y = record {
       within = λ j l. (let q : a + j - stack_start ≡ i + j = omega (arith, h0) in byte-high y (a + j) (omega (arith, h0)) ∙ (ap (slice_index y.stack) q ∙ over-within x.stack i xs j (omega (arith, fits)) l));
-      outside = λ byte at w. away byte at w (split byte stack_start) i fits refl;
+      outside = λ byte w. away byte w (split byte stack_start) i fits refl;
       low = refl;
       stack = over-length x.stack i xs fits;
     } in
     subst (IsFilled x a xs) (sym (ap (λ b. if b then record x { low = over x.low (a - text_start) xs } else y) e)) r
   where
-    away : (byte : ℕ) → text_start ≤ byte → (byte < a) ⊎ (a + length xs ≤ byte) → (byte < stack_start) ⊎ (stack_start ≤ byte) → (i : ℕ) → i + length xs ≤ length x.stack → a - stack_start ≡ i
+    away : (byte : ℕ) → (byte < a) ⊎ (a + length xs ≤ byte) → (byte < stack_start) ⊎ (stack_start ≤ byte) → (i : ℕ) → i + length xs ≤ length x.stack → a - stack_start ≡ i
         → read_byte (record x { stack = over x.stack i xs }) byte ≡ read_byte x byte
-    away byte at w (inl d) i fits e = byte-low (record x { stack = over x.stack i xs }) byte d ∙ sym (byte-low x byte d)
-    away byte at (inl l) (inr d) i fits e = byte-high (record x { stack = over x.stack i xs }) byte d ∙ (over-before x.stack i xs (byte - stack_start) (omega (arith, fits)) (omega (arith, e, l, d)) ∙ sym (byte-high x byte d))
-    away byte at (inr l) (inr d) i fits e =
+    away byte w (inl d) i fits e = byte-low (record x { stack = over x.stack i xs }) byte d ∙ sym (byte-low x byte d)
+    away byte (inl l) (inr d) i fits e = byte-high (record x { stack = over x.stack i xs }) byte d ∙ (over-before x.stack i xs (byte - stack_start) (omega (arith, fits)) (omega (arith, e, l, d)) ∙ sym (byte-high x byte d))
+    away byte (inr l) (inr d) i fits e =
         let h0 = h.0 in
         byte-high (record x { stack = over x.stack i xs }) byte d ∙ (over-behind x.stack i xs (byte - stack_start) (omega (arith, fits)) (omega (arith, e, l, d, h0)) ∙ sym (byte-high x byte d))
+
+-- where nothing is written, all is as it was
+pub filled-none : (x : Core) (a : ℕ) → IsFilled x a [] (with_bytes x a [])
+filled-none x a = by (nat_lt a stack_start)
+  where
+    same : IsFilled x a [] x
+    same = record { within = λ j l. absurd (omega (arith, l)); outside = λ byte w. refl; low = refl; stack = refl }
+
+    by : (b : Bool) → IsFilled x a [] (if b then record x { low = over x.low (a - text_start) [] } else record x { stack = over x.stack (a - stack_start) [] })
+    by true = subst (λ l. IsFilled x a [] (record x { low = l })) (sym (over-none x.low (a - text_start))) same
+    by false = subst (λ l. IsFilled x a [] (record x { stack = l })) (sym (over-none x.stack (a - stack_start))) same
 
 -- A WORD OF THE STACK
 

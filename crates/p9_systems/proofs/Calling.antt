@@ -1,11 +1,7 @@
 -- The code of a system call: it stores its first argument, makes the call, and returns.
-use Rattle.std.proofs.Common.{◌≡◌, ◌≢◌, ◌≤◌, ◌<◌, ◌⊎◌, inl, inr, ℕ, zero, suc, ◌+◌, ◌-◌, ◌*◌, ◌%◌, ◌^◌, ◌==◌, ◌||◌, ◌&&◌, nat_le, nat_lt, Bool, true, false, if◌then◌else◌, Result, Ok, Err, List, [], ◌∷◌, length, slice_index, slice_set, refl, sym, ap, ◌∙◌, subst, arith}
+use Rattle.std.proofs.Common.{◌≡◌, ◌≤◌, ◌<◌, ◌⊎◌, inl, inr, ℕ, zero, suc, ◌+◌, ◌-◌, ◌*◌, ◌%◌, ◌==◌, ◌||◌, nat_le, nat_lt, Bool, true, false, if◌then◌else◌, Ok, List, [], length, refl, sym, ap, ◌∙◌, arith}
 use Rattle.std.proofs.lemmas.Bool.Decides.{nat_tests}
-use Rattle.std.proofs.lemmas.List.{get_or-set_same, length-set}
-use Rattle.p9_base.specs.declared.halt.Ending.{Ending}
-use Rattle.p9_base.specs.declared.halt.Ending.TheVariants.{Running}
-use Rattle.p9_base.specs.declared.halt.HaltCause.{HaltCause}
-use Rattle.p9_base.specs.declared.halt.Effect.TheVariants as effects
+use Rattle.std.proofs.lemmas.List.{get_or-set_same}
 use Rattle.p9_base.specs.declared.halt.HaltCause.TheVariants as halts
 use Rattle.p9_base.specs.declared.halt.Asked.{Asked}
 use Rattle.p9_base.specs.declared.halt.Asked.TheVariants as asks
@@ -13,22 +9,20 @@ use Rattle.p9_base.specs.declared.order.ByteOrder.TheVariants.{Big}
 use Rattle.p9_base.specs.Words.{IsWord, word_sum}
 use Rattle.p9_base.specs.Core.{Core, text_start, stack_start, stack_end, low_end, reg, with_reg, readable, writable, read_byte, read_word, with_word, with_word_in}
 use Rattle.p9_base.specs.Effects.{store_word}
-use Rattle.p9_base.specs.SystemCalls.{State, asked, asked_exits, asked_read, asked_write, argument, then_one, then_three, called}
-use Rattle.p9_base.specs.Holding.{HoldsWords, AreBytes, LaidOut, KeepsText}
-use Rattle.p9_base.proofs.Holding.{HoldsAll, with_register-words, register-word, word-bytes, called-words, asked-count}
-use Rattle.p9_base.proofs.Kept.{length-word, called-keeps, asked-room}
-use Rattle.p9_abs.specs.declared.forms.Width.TheVariants as widths
-use Rattle.p9_abs.specs.declared.instructions.TextDef.{TextDef}
+use Rattle.p9_base.specs.SystemCalls.{State, asked, asked_exits, asked_read, asked_write, argument, then_one, then_three}
+use Rattle.p9_base.specs.Holding.{LaidOut}
+use Rattle.p9_base.proofs.Holding.{with_register-words, register-word, word-bytes}
+use Rattle.p9_base.proofs.Kept.{length-word}
 use Rattle.p9_abs.specs.BuiltIn.{system_code}
-use Rattle.p9_abs.specs.Steps.{Mach, Around, Step, Next, Returns, Exits, Undefined, step, with_core, does, is_free, touches, words_free, room_free, asks_system, ended, without_text}
+use Rattle.p9_abs.specs.Steps.{Mach, Around, Next, Returns, step, with_core, is_free, touches, words_free, asks_system, without_text}
 use Rattle.p9_abs.specs.Keeping.{around_framed}
 use Rattle.p9_abs.proofs.Fixed.{other-register}
 use Rattle.p9_cmean.specs.Cells as c
 use Rattle.p9_cmean.specs.Cells.{Value}
 use Rattle.p9_cmean.specs.Plays.{Call}
 use Rattle.p9_cmean.specs.SystemCalls.{SystemCall, Exits as SystemExits, Read as SystemRead, Write as SystemWrite}
-use Rattle.p9_sim.specs.Memory.{Map, Ground, Owner}
-use Rattle.p9_sim.specs.Matching.{IsLaidOut, IsArgument, Match, AtCall}
+use Rattle.p9_sim.specs.Memory.{Map, Ground}
+use Rattle.p9_sim.specs.Matching.{Match, AtCall}
 use Rattle.p9_systems.specs.Systems.{number_of, system_def}
 use Rattle.p9_systems.proofs.Bytes.{readable-span, writable-span, with_stack_word, word_stored, word_apart, word-high, byte-apart}
 use Rattle.p9_systems.proofs.Matched.{Near}
@@ -86,7 +80,7 @@ third-step : (system : SystemCall) (a : Around) (y : State) → y.core.text_end 
 unfolding step
 third-step system a y e = ap (λ t. asks_system a (asked (record y.core { text_end = t })) (record { state = record y { core = record y.core { text_end = t } }; vars = []; at = 2 })) (sym e)
 
-last-step : (system : SystemCall) (a : Around) (w : State) → step a (system_code (number_of system)) (record { state = w; vars = []; at = 3 }) ≡ Returns (without_text (record { state = w; vars = []; at = 3 }))
+pub last-step : (system : SystemCall) (a : Around) (w : State) → step a (system_code (number_of system)) (record { state = w; vars = []; at = 3 }) ≡ Returns (without_text (record { state = w; vars = []; at = 3 }))
 unfolding step
 last-step system a w = refl
 
@@ -99,8 +93,8 @@ argument-is c a v e f g = rw (e, f, g) refl
 pub asks-exits : (c : Core) (v : ℕ) → reg c 1 ≡ 8 → argument c (word_sum (reg c 29) 4) ≡ Ok v → asked c ≡ asked_exits c v
 asks-exits c v one first =
     ap (λ r. if r == 8 then then_one (argument c (word_sum (reg c 29) 4)) (asked_exits c) else
-        if r == 15 then then_three c (asked_read c) else
-        if r == 20 then then_three c (asked_write c) else asks.Stop (halts.BadCall r)) one
+    if r == 15 then then_three c (asked_read c) else
+    if r == 20 then then_three c (asked_write c) else asks.Stop (halts.BadCall r)) one
     ∙ ap (λ o. then_one o (asked_exits c)) first
 
 three-arguments : (c : Core) (go : ℕ → ℕ → ℕ → Asked) (d a n : ℕ) → argument c (word_sum (reg c 29) 4) ≡ Ok d → argument c (word_sum (reg c 29) 8) ≡ Ok a → argument c (word_sum (reg c 29) 12) ≡ Ok n
@@ -113,16 +107,16 @@ pub asks-read : (c : Core) (d a n : ℕ) → reg c 1 ≡ 15 → argument c (word
     → asked c ≡ asked_read c d a n
 asks-read c d a n one first second third =
     ap (λ r. if r == 8 then then_one (argument c (word_sum (reg c 29) 4)) (asked_exits c) else
-        if r == 15 then then_three c (asked_read c) else
-        if r == 20 then then_three c (asked_write c) else asks.Stop (halts.BadCall r)) one
+    if r == 15 then then_three c (asked_read c) else
+    if r == 20 then then_three c (asked_write c) else asks.Stop (halts.BadCall r)) one
     ∙ three-arguments c (asked_read c) d a n first second third
 
 pub asks-write : (c : Core) (d a n : ℕ) → reg c 1 ≡ 20 → argument c (word_sum (reg c 29) 4) ≡ Ok d → argument c (word_sum (reg c 29) 8) ≡ Ok a → argument c (word_sum (reg c 29) 12) ≡ Ok n
     → asked c ≡ asked_write c d a n
 asks-write c d a n one first second third =
     ap (λ r. if r == 8 then then_one (argument c (word_sum (reg c 29) 4)) (asked_exits c) else
-        if r == 15 then then_three c (asked_read c) else
-        if r == 20 then then_three c (asked_write c) else asks.Stop (halts.BadCall r)) one
+    if r == 15 then then_three c (asked_read c) else
+    if r == 20 then then_three c (asked_write c) else asks.Stop (halts.BadCall r)) one
     ∙ three-arguments c (asked_write c) d a n first second third
 
 -- BEFORE THE CALL
@@ -263,9 +257,9 @@ module _ (g : Ground) (system : SystemCall) (symbol : ℕ → ℕ) (others : ℕ
     memory = λ byte o. (let hi = high in byte-apart x.core (reg x.core 29 + 4) (reg x.core 1) byte (omega (arith, hi)) (by byte o));
     argument_1 = argument-at 0 4 (reg x.core 1) (omega arith) one first-word;
     arguments_more = λ l. (
-        argument-at 1 8 (read_word x.core (reg x.core 29 + 8)) (omega arith) (omega (arith, l)) (later-word (reg x.core 29 + 8) (omega arith)),
-        argument-at 2 12 (read_word x.core (reg x.core 29 + 12)) (omega arith) (omega (arith, l)) (later-word (reg x.core 29 + 12) (omega arith)),
-      );
+      argument-at 1 8 (read_word x.core (reg x.core 29 + 8)) (omega arith) (omega (arith, l)) (later-word (reg x.core 29 + 8) (omega arith)),
+      argument-at 2 12 (read_word x.core (reg x.core 29 + 12)) (omega arith) (omega (arith, l)) (later-word (reg x.core 29 + 12) (omega arith)),
+    );
     word_1 = (let f = free-at 0 4 (omega arith) one in rw f refl);
     words_3 = λ l. (let f = free-at 0 4 (omega arith) one in let d = free-at 1 8 (omega arith) (omega (arith, l)) in let e = free-at 2 12 (omega arith) (omega (arith, l)) in rw (f, d, e) refl);
   }

@@ -1,5 +1,5 @@
 -- Cells and the bytes that stand for them.
-use Rattle.std.proofs.Common.{◌≡◌, ◌≢◌, ◌≤◌, ◌<◌, ◌⊎◌, inl, inr, ℕ, zero, suc, ◌+◌, ◌-◌, Bool, true, false, Some, None, List, [], ◌∷◌, ◌++◌, length, take, drop, slice_get, slice_set, refl, sym, ap, ◌∙◌, subst, arith, length-append, length-drop}
+use Rattle.std.proofs.Common.{◌≡◌, ◌≢◌, ◌≤◌, ◌<◌, ◌⊎◌, inl, inr, ℕ, zero, suc, ◌+◌, Some, List, [], ◌∷◌, ◌++◌, length, take, drop, slice_get, slice_set, refl, sym, ap, ◌∙◌, subst, arith, length-append, length-drop}
 use Rattle.std.proofs.lemmas.List.{length-take-le}
 use Rattle.p9_cmean.specs.Cells.{Cell, Object}
 use Rattle.p9_cmean.specs.Access.{overwritten}
@@ -88,5 +88,5 @@ stands-overwritten g m byte other object start offset cells fits kept new old =
     (stands-at g m other (drop (offset + length cells) object.cells) (start + (offset + length cells)) (start + offset + length cells) part
     (stands-same g m byte other (drop (offset + length cells) object.cells) (start + (offset + length cells))
     (λ k l. let q : start + (offset + length cells) + k ≡ start + (offset + length cells + k) = omega arith in
-        ap other q ∙ (kept (offset + length cells + k) (omega (arith, l, d)) (inr (omega arith)) ∙ ap byte (sym q)))
+    ap other q ∙ (kept (offset + length cells + k) (omega (arith, l, d)) (inr (omega arith)) ∙ ap byte (sym q)))
     (stands-drop g m byte (offset + length cells) object.cells start old)))))

@@ -1,33 +1,33 @@
 -- The code of `exits` does what `exits` does.
-use Rattle.std.proofs.Common.{◌≡◌, ◌≢◌, ◌≤◌, ◌<◌, ◌⊎◌, inl, inr, ℕ, zero, suc, ◌+◌, ◌-◌, ◌%◌, ◌^◌, ◌==◌, ◌||◌, nat_lt, Bool, true, false, if◌then◌else◌, Option, Some, None, Result, Ok, Err, List, [], ◌∷◌, length, drop, slice_get, slice_index, refl, sym, ap, ◌∙◌, subst, arith, length-drop}
-use Rattle.std.specs.Prelude.{position, not, unwrap_or}
+use Rattle.std.proofs.Common.{◌≡◌, ◌≤◌, ◌<◌, ◌⊎◌, inl, inr, ℕ, zero, suc, ◌+◌, ◌^◌, ◌==◌, ◌||◌, nat_lt, Bool, true, false, if◌then◌else◌, Option, Some, None, Result, Ok, Err, List, [], ◌∷◌, length, drop, slice_get, slice_index, refl, sym, ap, ◌∙◌, subst, arith, length-drop}
+use Rattle.std.specs.Prelude.{not, unwrap_or}
 use Rattle.std.specs.List.{position_or_len}
 use Rattle.std.proofs.lemmas.Bool.Decides.{nat_tests}
 use Rattle.std.proofs.lemmas.List.Sums.{position_or_len_is}
 use Rattle.p9_base.specs.declared.halt.Asked.TheVariants as asks
 use Rattle.p9_base.specs.Words.{word_sum}
-use Rattle.p9_base.specs.Core.{Core, text_start, stack_start, stack_end, low_end, reg, readable, read_byte, bytes_from}
-use Rattle.p9_base.specs.SystemCalls.{State, asked, asked_exits, exits_of, called, exit_text}
+use Rattle.p9_base.specs.Core.{Core, text_start, reg, readable, read_byte, bytes_from}
+use Rattle.p9_base.specs.SystemCalls.{State, asked, asked_exits, called}
 use Rattle.p9_base.specs.Holding.{LaidOut}
 use Rattle.p9_abs.specs.BuiltIn.{system_code}
-use Rattle.p9_abs.specs.Steps.{Mach, Around, Step, Next, Exits, Undefined, step, is_free, words_free, room_free, asks_system, ended}
+use Rattle.p9_abs.specs.Steps.{Mach, Around, Next, Exits, step, is_free, words_free, asks_system}
 use Rattle.p9_cmean.specs.declared.Cause.{Cause}
 use Rattle.p9_cmean.specs.declared.Cause.TheVariants as cause
 use Rattle.p9_cmean.specs.declared.Place.{Place}
 use Rattle.p9_cmean.specs.Cells as c
 use Rattle.p9_cmean.specs.Cells.{Pointer, Into, ToFunction, Cell, Unset, Byte, Part, Object, Value, Word, Address, Missing}
-use Rattle.p9_cmean.specs.Plays.{Call, Play, Exit}
+use Rattle.p9_cmean.specs.Plays.{Call, Exit}
 use Rattle.p9_cmean.specs.Access.{dead_object}
 use Rattle.p9_cmean.specs.Places.{or_wrong}
-use Rattle.p9_cmean.specs.SystemCalls.{text_in, behind, exits, exits_call, exit_text as c_text, Exits as SystemExits}
+use Rattle.p9_cmean.specs.SystemCalls.{text_in, behind, exits, exits_call, Exits as SystemExits}
 use Rattle.p9_sim.specs.Memory.{Map, HasAddress, Ground, word_of, moved_address, StandCells, Owner}
-use Rattle.p9_sim.specs.Matching.{Lies, Match, StandArguments, AtCall, entry_of}
+use Rattle.p9_sim.specs.Matching.{StandArguments, AtCall, entry_of}
 use Rattle.p9_sim.specs.Playing.{AllSteps, Branches, Counting, Count, first_count, after_plain, Setting, step_in, Continues, Goes, Performs}
 use Rattle.p9_sim.specs.Functions.{lowered_stack, setting_of}
 use Rattle.p9_sim.proofs.Going.{one-step}
 use Rattle.p9_systems.specs.Systems.{system_def}
 use Rattle.p9_systems.proofs.Bytes.{Spans, spans-from, spans-less, spans-all, readable-span, run-of, bytes-are}
-use Rattle.p9_systems.proofs.Cells.{some-same, stands-drop, stands-same}
+use Rattle.p9_systems.proofs.Cells.{some-same, stands-drop}
 use Rattle.p9_systems.proofs.Matched.{lies-above}
 use Rattle.p9_systems.proofs.Calling.{free-range, around, prepared, with_argument, IsPrepared, prepared-is, asks-exits}
 

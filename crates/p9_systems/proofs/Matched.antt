@@ -1,10 +1,10 @@
 -- A match is kept where bytes change that no object owns, and where bytes of one object change with its cells.
-use Rattle.std.proofs.Common.{◌≡◌, ◌≢◌, ◌≤◌, ◌<◌, ◌⊎◌, inl, inr, ℕ, zero, suc, ◌+◌, ◌-◌, ◌%◌, Bool, true, false, Some, None, List, [], ◌∷◌, length, slice_get, slice_set, refl, sym, ap, ◌∙◌, subst, arith}
+use Rattle.std.proofs.Common.{◌≡◌, ◌≢◌, ◌≤◌, ◌<◌, ◌⊎◌, inl, inr, ℕ, ◌+◌, ◌-◌, ◌%◌, Bool, true, false, Some, None, List, length, slice_get, slice_set, refl, sym, ap, ◌∙◌, subst, arith}
 use Rattle.std.proofs.lemmas.Bool.Decides.{nat_tests}
-use Rattle.std.proofs.lemmas.List.{length-set, append-nil}
+use Rattle.std.proofs.lemmas.List.{length-set}
 use Rattle.std.proofs.lemmas.Option.{slice_get_past, slice_get_within}
 use Rattle.std.specs.Prelude.{nat_lt}
-use Rattle.p9_base.specs.Core.{Core, text_start, stack_start, stack_end, low_end, reg, read_byte}
+use Rattle.p9_base.specs.Core.{text_start, stack_start, stack_end, reg, read_byte}
 use Rattle.p9_base.specs.SystemCalls.{State}
 use Rattle.p9_base.specs.Holding.{HoldsWords, AreBytes}
 use Rattle.p9_abs.specs.Keeping.{SameSizes}
@@ -15,7 +15,6 @@ use Rattle.p9_cmean.specs.Turns.{room}
 use Rattle.p9_sim.specs.Memory.{Map, HasAddress, Ground, StandsValue, StandCells, Owner}
 use Rattle.p9_sim.specs.Matching.{IsLaidOut, Lies, Match, SameObjects, IsArgument, Answers}
 use Rattle.p9_sim.proofs.Registers.{extends-self}
-use Rattle.p9_systems.proofs.Bytes.{Spans}
 use Rattle.p9_systems.proofs.Cells.{get-set_same, get-set_other, same-or-not, some-same, stands-same, overwritten-length, stands-overwritten}
 
 -- the second state has other bytes in memory, and other registers than R29 and R30
@@ -65,6 +64,7 @@ module _ (g : Ground) (shut other : ℕ → Bool) (active : ℕ) (m : Map) (s : 
     bytes = bytes;
     laid = laid-near x y n h.laid;
     data_start = n.sizes.data_start ∙ h.data_start;
+    behind = h.behind;
     gap = (let low = n.sizes.low in let up = h.gap in omega (arith, low, up));
     order = n.sizes.order ∙ h.order;
     running = n.ending ∙ h.running;
@@ -102,19 +102,19 @@ module _ (g : Ground) (shut other : ℕ → Bool) (active : ℕ) (m : Map) (s : 
               sym e,
             )
         by (inr e) = (
-            record {
-              number = w.number;
-              object = w.object;
-              start = w.start;
-              k = w.k;
-              is_object = sym (get-set_other s.objects number w.number (overwritten object offset cells) e) ∙ w.is_object;
-              alive = w.alive;
-              placed = w.placed;
-              inside = w.inside;
-              is = w.is;
-            },
-            refl,
-          )
+          record {
+            number = w.number;
+            object = w.object;
+            start = w.start;
+            k = w.k;
+            is_object = sym (get-set_other s.objects number w.number (overwritten object offset cells) e) ∙ w.is_object;
+            alive = w.alive;
+            placed = w.placed;
+            inside = w.inside;
+            is = w.is;
+          },
+          refl,
+        )
 
     owner-at : (k : ℕ) → k < length object.cells → Owner m s.objects (start + k)
     owner-at k l = record { number = number; object = object; start = start; k = k; is_object = is; alive = alive; placed = placed; inside = l; is = refl }
@@ -141,6 +141,7 @@ module _ (g : Ground) (shut other : ℕ → Bool) (active : ℕ) (m : Map) (s : 
       bytes = bytes;
       laid = laid-near x y n h.laid;
       data_start = n.sizes.data_start ∙ h.data_start;
+      behind = h.behind;
       gap = (let low = n.sizes.low in let up = h.gap in omega (arith, low, up));
       order = n.sizes.order ∙ h.order;
       running = n.ending ∙ h.running;
