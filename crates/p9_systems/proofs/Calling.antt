@@ -47,11 +47,11 @@ around system symbol sp others = around_framed symbol (system_def system) sp oth
 
 -- STEPS
 
-store : (a : Around) (at v : ℕ) (x : Mach) → is_free a.banned at 4 ≡ true → (at % 4 == 0) ≡ true → nat_le 4 (writable x.state.core at) ≡ true
+pub store : (a : Around) (at v : ℕ) (x : Mach) → is_free a.banned at 4 ≡ true → (at % 4 == 0) ≡ true → nat_le 4 (writable x.state.core at) ≡ true
     → touches a at 4 (store_word x.state.core at v) x ≡ Next (with_core x (with_word x.state.core at v))
 store a at v x f e w = rw (f, e, w) refl
 
-stored-high : (c : Core) (at v : ℕ) → stack_start ≤ at → c.order ≡ Big → with_word c at v ≡ record c { stack = with_stack_word c at v }
+pub stored-high : (c : Core) (at v : ℕ) → stack_start ≤ at → c.order ≡ Big → with_word c at v ≡ record c { stack = with_stack_word c at v }
 stored-high c at v h big =
     let e : nat_lt at stack_start ≡ false = grind (arith, nat_tests) in
     ap (λ b. if b then record c { low = with_word_in c.order c.low (at - text_start) v } else record c { stack = with_word_in c.order c.stack (at - stack_start) v }) e

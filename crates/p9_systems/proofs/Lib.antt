@@ -6,3 +6,4 @@ pub mod Exiting
 pub mod Transfers
 pub mod Writing
 pub mod Reading
+pub mod Systems
