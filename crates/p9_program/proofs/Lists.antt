@@ -88,6 +88,17 @@ filter-at p (y ∷ xs) (suc t) x e h = by (p y) (filter-at p xs t x e h)
     by true r = (suc r.0, r.1)
     by false r = r
 
+-- and what stays passes
+pub filter-back : {A : Type 0} (p : A → Bool) (xs : List A) (u : ℕ) (x : A) → slice_get (filter p xs) u ≡ Some x → (t : ℕ) × (slice_get xs t ≡ Some x) × (p x ≡ true)
+filter-back p [] u x e = absurd (none-some x e)
+filter-back p (y ∷ xs) u x e = by (p y) refl u e (λ i g. filter-back p xs i x g)
+  where
+    by : (b : Bool) → p y ≡ b → (u : ℕ) → slice_get (if b then y ∷ filter p xs else filter p xs) u ≡ Some x → ((i : ℕ) → slice_get (filter p xs) i ≡ Some x → (t : ℕ) × (slice_get xs t ≡ Some x) × (p x ≡ true))
+        → (t : ℕ) × (slice_get (y ∷ xs) t ≡ Some x) × (p x ≡ true)
+    by true f zero g rec = (0, g, ap p (sym (some-same y x g)) ∙ f)
+    by true f (suc u) g rec = let r = rec u g in (suc r.0, r.1, r.2)
+    by false f u g rec = let r = rec u g in (suc r.0, r.1, r.2)
+
 -- TESTS
 
 pub any-at : {A : Type 0} (p : A → Bool) (xs : List A) (t : ℕ) (x : A) → slice_get xs t ≡ Some x → p x ≡ true → list_any p xs ≡ true

@@ -32,7 +32,7 @@ equal a b h = grind (arith, nat_tests)
 equal-self : (a b : ℕ) → a ≡ b → (a == b) ≡ true
 equal-self a b h = grind (arith, nat_tests)
 
-all-at : {A : Type 0} (P : A → Type 0) (xs : List A) (t : ℕ) (x : A) → All P xs → slice_get xs t ≡ Some x → P x
+pub all-at : {A : Type 0} (P : A → Type 0) (xs : List A) (t : ℕ) (x : A) → All P xs → slice_get xs t ≡ Some x → P x
 all-at P [] t x h e = absurd (none-some x e)
 all-at P (y ∷ xs) zero x h e = subst P (some-same y x e) (All-head P y xs h)
 all-at P (y ∷ xs) (suc t) x h e = all-at P xs t x (All-tail P y xs h) e
