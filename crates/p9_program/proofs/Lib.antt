@@ -7,3 +7,4 @@ pub mod Laying
 pub mod Data
 pub mod Functions
 pub mod Names
+pub mod Codes

@@ -102,7 +102,7 @@ module _ (modules : List Source) (outs : List AModule) (tr : AreTranslations mod
         )
 
     -- a module's local function of this name is this symbol
-    local-is : is_local_function (union_of modules) owner b.name ≡ true → (b.local ≡ true) × ((def : TextDef) × (b.body ≡ Text def))
+    pub local-is : is_local_function (union_of modules) owner b.name ≡ true → (b.local ≡ true) × ((def : TextDef) × (b.body ≡ Text def))
     local-is h =
         let t = local-text modules outs tr join owner b.name h in
         let n = local-name t.entry owner b.name t.name in
@@ -126,7 +126,7 @@ module _ (modules : List Source) (outs : List AModule) (tr : AreTranslations mod
     entry-same : SameSymbol here.stands.source.tags here.entry.symbol b
     entry-same = same-symbol modules outs tr join here.place here.entry (numbered d b) here.stands
 
-    local-number : b.local ≡ true → local_definition outs owner b.name ≡ Some d
+    pub local-number : b.local ≡ true → local_definition outs owner b.name ≡ Some d
     local-number l = ap (λ z. option_map (λ i. record { «module» = owner; symbol = i }) (number_from 0 (is_local_named b.name) (symbols_in z))) is_out ∙ ap (option_map (λ i. record { «module» = owner; symbol = i })) which
       where
         test : is_local_named b.name b ≡ true
