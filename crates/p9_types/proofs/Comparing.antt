@@ -1,9 +1,9 @@
 -- Types that are compared part by part.
-use Rattle.std.proofs.Common.{◌≡◌, ◌≤◌, ◌<◌, ◌↔◌, ℕ, zero, suc, ◌+◌, ◌-◌, nat_eq, Bool, true, false, ◌&&◌, IsTrue, List, [], ◌∷◌, ◌++◌, length, refl, sym, ap, subst, ◌∙◌, arith}
+use Rattle.std.proofs.Common.{◌≡◌, ◌≤◌, ◌<◌, ◌↔◌, ℕ, ◌+◌, nat_eq, Bool, true, false, ◌&&◌, IsTrue, List, [], ◌∷◌, ◌++◌, length, refl, sym, ap, subst, ◌∙◌, arith}
 use Rattle.std.proofs.lemmas.Bool.Decides.{nat_tests}
 use Rattle.p9_lang.specs.declared.types.CType.{CType}
-use Rattle.p9_lang.specs.Types.{TypeTree, Void, Char, UChar, Short, UShort, Int, UInt, Long, ULong, Pointer, Array, Function, Tagged, TypeRow, none, more, type_of, types_of, type_row}
-use Rattle.p9_lang.specs.Conversions.{same_type, same_types, is_pointer, is_array, is_function, is_structure}
+use Rattle.p9_lang.specs.Types.{TypeTree, Void, Char, UChar, Short, UShort, Int, UInt, Long, ULong, Pointer, Array, Function, Tagged, TypeRow, none, type_of, types_of, type_row}
+use Rattle.p9_lang.specs.Conversions.{same_type, same_types}
 use Rattle.p9_types.specs.declared.same.Pair.{Pair}
 use Rattle.p9_types.specs.Heads.{head_of}
 use Rattle.p9_types.specs.Pairs.{left_of, right_of, same_pairs, type_weight, row_weight, pairs_weight, PutsParts, PutsRows}

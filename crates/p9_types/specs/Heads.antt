@@ -1,5 +1,4 @@
 -- What types are, without their parts.
-use Rattle.std.specs.Prelude.{Bool, true, false}
 use Rattle.p9_types.specs.declared.head.TypeHead.{TypeHead}
 use Rattle.p9_types.specs.declared.head.TypeHead.TheVariants as head
 use Rattle.p9_lang.specs.Types.{TypeTree, Void, Char, UChar, Short, UShort, Int, UInt, Long, ULong, Pointer, Array, Function, Tagged}

@@ -1,5 +1,4 @@
-use Rattle.std.proofs.Common.{◌≡◌, ◌-◌, ◌∷◌, List, length, take, drop, refl}
-use Rattle.p9_lang.specs.declared.types.CType.{CType}
+use Rattle.std.proofs.Common.{◌-◌, length, take, drop, refl}
 use Rattle.p9_types.proofs.Lists.{first_and_others, empty_below}
 use Rattle.p9_types.proofs.Comparing.{compares_next, compares_last}
 use Rattle.p9_types.proofs.same.put_parameters.Goals as goal

@@ -1,4 +1,4 @@
-use Rattle.std.proofs.Common.{◌≡◌, ◌&&◌, sym, ap, ◌∙◌}
+use Rattle.std.proofs.Common.{◌&&◌, sym, ap, ◌∙◌}
 use Rattle.p9_lang.specs.Types.{type_of}
 use Rattle.p9_lang.specs.Conversions.{same_type}
 use Rattle.p9_types.specs.Pairs.{same_pairs}
