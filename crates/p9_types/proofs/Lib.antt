@@ -17,3 +17,4 @@ mod Placings
 mod Unnamed
 mod NamedMembers
 mod Loops
+mod Comparing

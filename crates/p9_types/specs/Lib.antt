@@ -6,4 +6,7 @@ pub mod Levels
 pub mod Sightings
 pub mod Standings
 pub mod Sizes
+pub mod Heads
+pub mod Pairs
+pub mod Converted
 pub mod Examples

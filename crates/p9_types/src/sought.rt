@@ -5,7 +5,7 @@ ghost use Rattle.p9_types.specs.Sightings.{told_sought};
 
 /// Where something stands: nowhere, at one place, or at several.
 #[derive(Clone, Copy, Drop, PartialEq, Eq, Debug)]
-pub enum Sought<T> {
+pub(crate) enum Sought<T> {
     Nowhere,
     One(T),
     Several,

@@ -70,7 +70,7 @@ fn find_below(alloc: Global, tags: &[Tag], outer: u32, inner: u32) -> Result<Sou
 
 /// Where a structure or union stands within another one as an unnamed substructure, at the least level
 /// that has it.
-pub fn find_substructure(
+pub(crate) fn find_substructure(
     alloc: Global,
     tags: &Tags,
     outer: u32,

@@ -3,7 +3,7 @@ ghost use Rattle.p9_lang.specs.Types.{type_of, member_of, members_of, tag_of, ta
 ghost use Rattle.p9_lang.specs.LayoutExamples.{structure};
 ghost use Rattle.p9_types.specs.Examples.{sample_tag, sample, innermost_tag, enclosing_tag, nested};
 
-use crate::{Found, Layout, Sought, TypeFault, find_member, find_substructure, layout};
+use crate::{Conv, Found, Layout, TypeFault, convert, find_member, layout};
 use p9_base::NoMemory;
 use p9_lang::{CType, Ident, Member, Tag, Tags};
 use sqlite_items::{Boxed, Items};
@@ -144,10 +144,13 @@ fn nested_member(alloc: Global, tag: u32, name: &[u8]) -> Result<Found, NoMemory
     find_member(alloc, &tags, tag, &name)
 }
 
-// Where the second structure stands in the third.
-fn second_in_third(alloc: Global) -> Result<Sought<u32>, NoMemory> {
+fn converted(alloc: Global, from: &CType, to: &CType, zero: bool) -> Result<Conv, NoMemory> {
     let tags = nested(alloc)?;
-    find_substructure(alloc, &tags, 2, 1)
+    convert(alloc, from, to, &tags, zero)
+}
+
+fn pointer(alloc: Global, target: CType) -> Result<CType, NoMemory> {
+    Ok(CType::Pointer(Boxed::new(alloc, target)?))
 }
 
 fn at(offset: u32, member: u32) -> Found {
@@ -172,6 +175,48 @@ fn unnamed_structures(rt: HostRuntime) -> Result<(), Fail> {
     assert_eq!(rt; nested_member(rt.alloc(), 2, b"k")?, Found::Ambiguous);
     assert_eq!(rt; nested_member(rt.alloc(), 0, b"k")?, at(0, 0));
     assert_eq!(rt; nested_member(rt.alloc(), 3, b"k")?, Found::Incomplete);
-    assert_eq!(rt; second_in_third(rt.alloc())?, Sought::One(4));
+    Ok(())
+}
+
+// From `void *`.
+fn from_void(alloc: Global, target: CType) -> Result<Conv, NoMemory> {
+    let void = pointer(alloc, CType::Void)?;
+    let to = pointer(alloc, target)?;
+    converted(alloc, &void, &to, false)
+}
+
+fn between(alloc: Global, from: u32, to: u32) -> Result<Conv, NoMemory> {
+    let from = pointer(alloc, CType::Tagged(from))?;
+    let to = pointer(alloc, CType::Tagged(to))?;
+    converted(alloc, &from, &to, false)
+}
+
+fn from_null(alloc: Global) -> Result<Conv, NoMemory> {
+    let to = pointer(alloc, CType::Char)?;
+    converted(alloc, &CType::Int, &to, true)
+}
+
+#[test]
+fn pointers(rt: HostRuntime) -> Result<(), Fail> {
+    let function = CType::Function(Boxed::new(rt.alloc(), CType::Int)?, Items::new(rt.alloc()));
+    assert_eq!(rt; from_void(rt.alloc(), function)?, Conv::No);
+    assert_eq!(rt; from_void(rt.alloc(), CType::Int)?, Conv::Same);
+    Ok(())
+}
+
+#[test]
+fn structures(rt: HostRuntime) -> Result<(), Fail> {
+    assert_eq!(rt; between(rt.alloc(), 2, 1)?, Conv::Inner(4));
+    assert_eq!(rt; between(rt.alloc(), 1, 2)?, Conv::No);
+    Ok(())
+}
+
+#[test]
+fn integers(rt: HostRuntime) -> Result<(), Fail> {
+    assert_eq!(rt;
+        converted(rt.alloc(), &CType::Int, &CType::Char, true)?,
+        Conv::Integer
+    );
+    assert_eq!(rt; from_null(rt.alloc())?, Conv::Null);
     Ok(())
 }
