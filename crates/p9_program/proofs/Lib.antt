@@ -1,0 +1,10 @@
+pub mod Lists
+pub mod Positions
+pub mod Joined
+pub mod Routines
+pub mod Objects
+pub mod Laying
+pub mod Data
+pub mod Functions
+pub mod Names
+pub mod Codes
