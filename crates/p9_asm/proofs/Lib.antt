@@ -2,3 +2,16 @@ pub mod Naming
 pub mod Few
 pub mod Runs
 pub mod Telling
+pub mod Options
+pub mod Proper
+pub mod Places
+pub mod Spelled
+pub mod Named
+pub mod Saying
+pub mod Chained
+pub mod Clean
+pub mod Formed
+pub mod Ranges
+pub mod Functions
+pub mod Listed
+pub mod Celled
