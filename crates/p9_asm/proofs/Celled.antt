@@ -1,7 +1,7 @@
 -- The data of a symbol of a file without breaks are those of a valid module.
-use Rattle.std.proofs.Common.{◌≡◌, ◌≢◌, ℕ, zero, suc, ◌+◌, ◌-◌, ◌%◌, ◌==◌, ◌<◌, ◌≤◌, ltb, Bool, true, false, ◌&&◌, ◌||◌, not, cond, List, [], ◌∷◌, ◌++◌, length, Option, Some, None, All, unwrap_or, slice_get, refl, sym, ap, subst, ◌∙◌, arith}
+use Rattle.std.proofs.Common.{◌≡◌, ◌≢◌, ℕ, zero, suc, ◌+◌, ◌-◌, ◌%◌, ◌==◌, ◌<◌, ◌≤◌, Bool, true, false, not, cond, List, [], ◌∷◌, length, Option, Some, None, unwrap_or, slice_get, refl, sym, ap, subst, ◌∙◌, arith}
 use Rattle.std.specs.Prelude.{option_and_then}
-use Rattle.std.specs.List.{list_all, sum_by}
+use Rattle.std.specs.List.{list_all}
 use Rattle.std.proofs.lemmas.Bool.Decides.{nat_tests}
 use Rattle.std.proofs.lemmas.List.Sums.{sum_by-cons}
 use Rattle.p9_abs.specs.declared.modules.DataPiece.{DataPiece}
@@ -22,8 +22,8 @@ use Rattle.p9_facts.specs.Names.{symbols_of, names_of_statement, names_of_conten
 use Rattle.p9_asm.specs.declared.pieces.Cell.{Cell}
 use Rattle.p9_asm.specs.declared.pieces.Cell.TheVariants.{Byte, Start, Inside}
 use Rattle.p9_asm.specs.Files.{File, file_of, number_of, statement_in, statement_at}
-use Rattle.p9_asm.specs.Breaks.{size_in, size_at, width_of, is_at, is_new, was_smaller, is_broken, is_outside, is_outside_size, is_unended}
-use Rattle.p9_asm.specs.Data.{half_byte, word_byte, cell_of, cell_in, standing, raw_in_front, in_front, pieces_from}
+use Rattle.p9_asm.specs.Breaks.{size_at, width_of, is_at, is_new, was_smaller, is_broken, is_outside, is_outside_size, is_unended}
+use Rattle.p9_asm.specs.Data.{cell_of, cell_in, standing, raw_in_front, in_front, pieces_from}
 use Rattle.p9_asm.proofs.Options.{Each}
 use Rattle.p9_asm.proofs.Places.{found_first}
 use Rattle.p9_asm.proofs.Proper.{both}
@@ -59,7 +59,7 @@ given_at rows s p i h =
     let f = found_first (says (byte_of s p)) rows i h in
     given_by rows s p i f.item (statement_in f.item.content) h f.here refl (row_gives s p f.item f.passes)
 
-statement_there : (rows : List Row) (i : ℕ) (r : Row) (st : Option Statement) → slice_get rows i ≡ Some r → statement_in r.content ≡ st → statement_at (file_of rows) i ≡ st
+pub statement_there : (rows : List Row) (i : ℕ) (r : Row) (st : Option Statement) → slice_get rows i ≡ Some r → statement_in r.content ≡ st → statement_at (file_of rows) i ≡ st
 statement_there rows i r st at is = ap (option_and_then (λ (row : Row). statement_in row.content)) at ∙ is
 
 -- what a line gives stands at its bytes
@@ -163,7 +163,7 @@ inside_at : (rows : List Row) (s u : SymbolName) (m p q : ℕ) → (g : IsGiven 
 inside_at rows s u m p q g is later h =
     stands rows s p q g h ∙ (ap (λ d. cell_of d (q - g.offset)) is ∙ cell_inside u m (q - g.offset) (omega (arith, later)))
 
-content_names : (content : Option Line) → names_of_content content ≡ names_of_statement (statement_in content)
+pub content_names : (content : Option Line) → names_of_content content ≡ names_of_statement (statement_in content)
 content_names None = refl
 content_names (Some line) = refl
 
@@ -338,7 +338,7 @@ well_step tokens rows s n size p left (Start u m) sound sized is outside e more 
     let f = start_facts tokens rows s u n size m p sound sized is in
     let count : suc (suc (suc (left - 3))) ≡ left = omega (arith, f.within, e) in
     let pieces : pieces_from file s (p + 1) left ≡ pieces_from file s (p + 4) (left - 3) =
-        ap (pieces_from file s (p + 1)) (sym count) ∙ skip_three file s p (left - 3) f.second f.third f.fourth in
+    ap (pieces_from file s (p + 1)) (sym count) ∙ skip_three file s p (left - 3) f.second f.third f.fourth in
     let well = more (p + 4) (left - 3) (omega (arith, count)) (omega (arith, count, e)) (after_start tokens rows s p sound f.aligned) in
     let all = address_well total p (left - 3) (number_of file u) m (pieces_from file s (p + 4) (left - 3)) f.aligned (number_small (symbols_of rows) u f.listed) well in
     let counted : left - 3 + 4 ≡ suc left = omega (arith, count) in

@@ -1,5 +1,5 @@
 -- Where the lines of a file stand: each line's place follows from that of the line before it.
-use Rattle.std.proofs.Common.{◌≡◌, ℕ, zero, suc, ◌+◌, ◌<◌, ◌≤◌, ◌⊎◌, inl, inr, Bool, true, false, List, [], ◌∷◌, drop, length, Option, Some, None, slice_get, refl, sym, ap, subst, ◌∙◌, arith}
+use Rattle.std.proofs.Common.{◌≡◌, ℕ, zero, suc, ◌+◌, ◌<◌, ◌≤◌, ◌⊎◌, inl, inr, true, List, [], ◌∷◌, drop, length, Option, Some, None, slice_get, refl, sym, ap, subst, ◌∙◌, arith}
 use Rattle.p9_abs.specs.declared.instructions.Op.{Op}
 use Rattle.p9_abs.specs.declared.instructions.Op.TheVariants.{Ret, Jmp}
 use Rattle.p9_abs.specs.declared.instructions.Abs.{Abs}
@@ -89,8 +89,8 @@ function_from k p (x ∷ xs) zero r g h at e =
     inl (ap (λ (q : Place). q.function) place ∙ e)
 function_from k p (x ∷ xs) (suc n) r g h at e =
     elim (function_from (k + 1) (after_statement k p (statement_in x.content)) xs n r g h.1 at e) [
-      inl same ↦ after_from k p (statement_in x.content) g same
-    | inr le ↦ inr (omega (arith, le))
+      | inl same ↦ after_from k p (statement_in x.content) g same
+      | inr le ↦ inr (omega (arith, le))
     ]
 
 -- Counting a function's instructions
@@ -115,8 +115,8 @@ count_step : (file : File) (f k m n : ℕ) (p : Place) (st : Option Statement) (
 count_step file f k m n p None xs r in_f lt h at e more = more p in_f h
 count_step file f k m n p (Some (statements.Text s frame)) xs r in_f lt h at e more =
     elim (function_from (k + 1) (after_statement k p (Some (statements.Text s frame))) xs n r f h at e) [
-      inl same ↦ (let d : k ≡ f = cc in absurd (omega (arith, d, lt)))
-    | inr le ↦ absurd (omega (arith, le, lt))
+      | inl same ↦ (let d : k ≡ f = cc in absurd (omega (arith, d, lt)))
+      | inr le ↦ absurd (omega (arith, le, lt))
     ]
 count_step file f k m n p (Some (statements.Globl s size)) xs r in_f lt h at e more = more p in_f h
 count_step file f k m n p (Some (statements.Data s o d)) xs r in_f lt h at e more = more p in_f h

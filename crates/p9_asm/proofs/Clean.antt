@@ -1,6 +1,5 @@
 -- A file without breaks: what each of its lines keeps.
-use Rattle.std.proofs.Common.{◌≡◌, ℕ, zero, suc, ◌+◌, Bool, true, false, ◌&&◌, ◌||◌, not, cond, List, [], ◌∷◌, Option, Some, None, IfSome, slice_get, refl, sym, ap, subst, ◌∙◌, arith}
-use Rattle.std.specs.Prelude.{is_some, option_map}
+use Rattle.std.proofs.Common.{◌≡◌, ℕ, zero, suc, ◌+◌, Bool, true, false, ◌||◌, cond, List, [], ◌∷◌, Option, Some, None, slice_get, refl, subst, arith}
 use Rattle.std.specs.Option.{option_or}
 use Rattle.std.specs.List.{list_any}
 use Rattle.p9_lex.specs.declared.token.Token.{Token}
@@ -9,7 +8,6 @@ use Rattle.p9_rows.specs.declared.rows.Place.{Place}
 use Rattle.p9_rows.specs.declared.rows.Row.{Row}
 use Rattle.p9_rows.specs.Rows.{rows_of, lexemes_of, before_all}
 use Rattle.p9_facts.specs.Names.{names_of_statement}
-use Rattle.p9_asm.specs.declared.assembler.Broken.{Broken}
 use Rattle.p9_asm.specs.declared.breaks.Break.{Break}
 use Rattle.p9_asm.specs.declared.breaks.Break.TheVariants.{Syntax}
 use Rattle.p9_asm.specs.Files.{File, file_of, statement_in}

@@ -1,11 +1,10 @@
 -- The table of forms knows nothing of the numbers of symbols and labels.
-use Rattle.std.proofs.Common.{◌≡◌, ℕ, Bool, true, false, cond, List, [], ◌∷◌, map, Option, Some, None, nat_lt, refl, sym, ap, ◌∙◌}
+use Rattle.std.proofs.Common.{◌≡◌, ℕ, List, [], ◌∷◌, map, refl, ap, ◌∙◌}
 use Rattle.std.specs.Prelude.{is_some}
 use Rattle.p9_abs.specs.declared.instructions.Op.{Op}
 use Rattle.p9_abs.specs.declared.instructions.Op.TheVariants.{MovW, MovH, MovHU, MovB, MovBU, Add, AddU, Sub, SubU, And, Or, Xor, Nor, Sgt, SgtU, Sll, Srl, Sra, Mul, MulU, Div, DivU, Beq, Bne, Bgez, Bgtz, Blez, Bltz, Jmp, Jal, Ret, Syscall}
-use Rattle.p9_abs.specs.declared.instructions.Operand.{Operand}
 use Rattle.p9_abs.specs.declared.forms.Location.{Location}
-use Rattle.p9_abs.specs.declared.forms.Location.TheVariants.{Static, Argument, Frame, Based, Automatic}
+use Rattle.p9_abs.specs.declared.forms.Location.TheVariants.{Static}
 use Rattle.p9_abs.specs.declared.forms.OperandKind.{OperandKind}
 use Rattle.p9_abs.specs.declared.forms.OperandKind.TheVariants.{Register, Constant, Address, Memory, HiLo, Target, Function}
 use Rattle.p9_abs.specs.declared.forms.Width.{Width}
@@ -26,7 +25,7 @@ use Rattle.p9_statement.specs.declared.operands.Argument.TheVariants as from
 use Rattle.p9_statement.specs.declared.statements.Arguments.{Arguments}
 use Rattle.p9_statement.specs.Statements.{listed, shape_of, is_form}
 use Rattle.p9_asm.specs.Files.{File}
-use Rattle.p9_asm.specs.Code.{operand_of, instruction_of}
+use Rattle.p9_asm.specs.Code.{operand_of}
 
 abbrev plain_location : Location → Location
 plain_location (Static s o) = Static 0 o

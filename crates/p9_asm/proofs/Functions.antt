@@ -1,10 +1,10 @@
 -- A function of a file without breaks is one of a valid module.
-use Rattle.std.proofs.Common.{◌≡◌, ℕ, zero, suc, ◌+◌, ◌-◌, ◌%◌, ◌<◌, ◌≤◌, Bool, true, false, ◌&&◌, ◌||◌, not, List, [], ◌∷◌, drop, length, Option, Some, None, All, IfSome, unwrap_or, slice_get, refl, sym, ap, subst, ◌∙◌, arith}
+use Rattle.std.proofs.Common.{◌≡◌, ℕ, zero, suc, ◌+◌, ◌-◌, ◌<◌, Bool, true, false, ◌&&◌, not, List, [], ◌∷◌, drop, length, Option, Some, None, IfSome, unwrap_or, slice_get, refl, sym, ap, subst, ◌∙◌, arith}
 use Rattle.std.specs.Prelude.{is_some, option_map, option_and_then}
 use Rattle.p9_abs.specs.declared.instructions.Op.{Op}
 use Rattle.p9_abs.specs.declared.instructions.Abs.{Abs}
 use Rattle.p9_abs.specs.declared.instructions.TextDef.{TextDef}
-use Rattle.p9_abs.specs.Validity.{IsInstruction, IsFunction, EndsWell}
+use Rattle.p9_abs.specs.Validity.{IsInstruction, IsFunction}
 use Rattle.p9_lex.specs.declared.token.Token.{Token}
 use Rattle.p9_statement.specs.declared.operands.SymbolName.{SymbolName}
 use Rattle.p9_statement.specs.declared.statements.Arguments.{Arguments}
@@ -17,18 +17,17 @@ use Rattle.p9_rows.specs.declared.rows.Row.{Row}
 use Rattle.p9_rows.specs.Rows.{after_statement, before_all}
 use Rattle.p9_facts.specs.declared.facts.Fact.TheVariants.{Label, Instruction}
 use Rattle.p9_facts.specs.Facts.{says}
-use Rattle.p9_asm.specs.declared.breaks.Break.{Break}
 use Rattle.p9_asm.specs.declared.breaks.Break.TheVariants.{Reserved}
 use Rattle.p9_asm.specs.Files.{File, file_of, statement_in}
 use Rattle.p9_asm.specs.Breaks.{is_past, is_broken, reserved_in, is_unended, names_nothing, may_end, no_label}
 use Rattle.p9_asm.specs.Code.{instruction_at, target_of, instruction_of, code_of}
-use Rattle.p9_asm.proofs.Options.{Each, each_get, all_each, if_is}
+use Rattle.p9_asm.proofs.Options.{each_get, all_each, if_is}
 use Rattle.p9_asm.proofs.Places.{found_first}
-use Rattle.p9_asm.proofs.Proper.{both, IsProper, IsProperLine}
+use Rattle.p9_asm.proofs.Proper.{IsProper, IsProperLine}
 use Rattle.p9_asm.proofs.Spelled.{IsProperRow}
 use Rattle.p9_asm.proofs.Saying.{Counts, label_in, row_counts, row_labels}
 use Rattle.p9_asm.proofs.Chained.{IsChained, behind_chained, function_before, number_below, counts_function, HoldsOfRows, code_each, EndsRows, code_ends}
-use Rattle.p9_asm.proofs.Clean.{or_parts, IsClean, IsSound}
+use Rattle.p9_asm.proofs.Clean.{or_parts, IsSound}
 use Rattle.p9_asm.proofs.Ranges.{TargetsBelow, instruction_valid}
 
 pub get_drop : {X : Type 0} (a j : ℕ) (xs : List X) → slice_get (drop a xs) j ≡ slice_get xs (a + j)
@@ -55,13 +54,13 @@ some_known (Some i) h = (i, refl)
 
 -- Instructions are counted below their function's count
 
-abbrev start : (n frame : ℕ) → Place
+abbrev pub start : (n frame : ℕ) → Place
 start n frame = record { function = Some n; frame = frame; number = 0 }
 
-abbrev code_at : (rows : List Row) (n : ℕ) → List Abs
+abbrev pub code_at : (rows : List Row) (n : ℕ) → List Abs
 code_at rows n = code_of (file_of rows) n (drop (suc n) rows)
 
-body_chained : (tokens : List Token) (rows : List Row) (n : ℕ) (r : Row) (t : SymbolName) (frame : ℕ) → IsSound tokens rows → slice_get rows n ≡ Some r → statement_in r.content ≡ Some (statements.Text t frame) → IsChained (n + 1) (start n frame) (drop (suc n) rows)
+pub body_chained : (tokens : List Token) (rows : List Row) (n : ℕ) (r : Row) (t : SymbolName) (frame : ℕ) → IsSound tokens rows → slice_get rows n ≡ Some r → statement_in r.content ≡ Some (statements.Text t frame) → IsChained (n + 1) (start n frame) (drop (suc n) rows)
 body_chained tokens rows n r t frame s at is =
     subst (λ st. IsChained (n + 1) (after_statement n r.place st) (drop (suc n) rows)) is
     (behind_chained 0 n before_all rows n r (omega arith) at s.chained)
@@ -97,7 +96,7 @@ targets_below tokens rows n frame s chained w h =
     let below = past_below tokens rows n frame f.item.place.number s chained (named_past file f.item.place (label_in f.item.content) f.item.place.function n w refl labels.0 labels.1 clean.named) in
     let number : instruction_at file known.0 ≡ Some f.item.place.number = ap (option_map (λ (row : Row). row.place.number)) f.here in
     let target : target_of file n w ≡ f.item.place.number =
-        ap (λ o. unwrap_or (option_and_then (instruction_at file) o) 0) known.1 ∙ ap (λ o. unwrap_or o 0) number in
+    ap (λ o. unwrap_or (option_and_then (instruction_at file) o) 0) known.1 ∙ ap (λ o. unwrap_or o 0) number in
     omega (arith, target, below)
 
 -- The instructions
@@ -158,9 +157,9 @@ function_valid tokens rows n r t frame s at is =
     let some = past_below tokens rows n frame 0 s chained ended in
     let count = length code in
     let holds : HoldsOfRows (IsInstruction frame count) file n frame rest = λ j q op given here in_n in_frame st.
-        row_valid tokens rows n frame (suc n + j) q op given s chained (sym (get_drop (suc n) j rows) ∙ here) in_n in_frame st in
+    row_valid tokens rows n frame (suc n + j) q op given s chained (sym (get_drop (suc n) j rows) ∙ here) in_n in_frame st in
     let ends : EndsRows n count rest = λ j q op given here in_n st last.
-        rows_end tokens rows n frame (suc n + j) q op given s chained (sym (get_drop (suc n) j rows) ∙ here) in_n st last in
+    rows_end tokens rows n frame (suc n + j) q op given s chained (sym (get_drop (suc n) j rows) ∙ here) in_n st last in
     let same : suc n ≡ n + 1 = omega arith in
     let made : List Abs → TextDef = λ c. record { frame = frame; code = c } in
     let valid : IsFunction (made code) = record {

@@ -15,3 +15,5 @@ pub mod Ranges
 pub mod Functions
 pub mod Listed
 pub mod Celled
+pub mod Bodies
+pub mod Valid

@@ -1,5 +1,5 @@
 -- The names among the tokens of a file are names of symbols.
-use Rattle.std.proofs.Common.{◌≡◌, ℕ, zero, suc, ◌+◌, ◌==◌, ◌<◌, ◌≤◌, leb, Bool, true, false, ◌&&◌, ◌||◌, List, [], ◌∷◌, length, Some, slice_get, refl, sym, subst, arith}
+use Rattle.std.proofs.Common.{◌≡◌, ℕ, zero, suc, ◌==◌, ◌≤◌, leb, Bool, true, false, ◌&&◌, ◌||◌, List, [], ◌∷◌, refl, subst, arith}
 use Rattle.std.proofs.lemmas.Bool.Decides.{nat_tests}
 use Rattle.p9_abs.specs.Validity as validity
 use Rattle.p9_lex.specs.declared.token.Dialect.{Dialect}
@@ -7,7 +7,7 @@ use Rattle.p9_lex.specs.declared.token.Token.{Token}
 use Rattle.p9_lex.specs.declared.token.TokenKind.{TokenKind}
 use Rattle.p9_lex.specs.declared.token.TokenKind.TheVariants as kinds
 use Rattle.p9_lex.specs.Classes.{is_digit, is_upper, is_lower, is_name_start, is_name_byte}
-use Rattle.p9_lex.specs.Spelling.{AllOf, NotNext, IsName, Spells}
+use Rattle.p9_lex.specs.Spelling.{AllOf, IsName, Spells}
 use Rattle.p9_lex.specs.Made.{is_line_end, IfEnd, AreTokens}
 use Rattle.p9_asm.proofs.Options.{Each, all_each}
 use Rattle.p9_asm.proofs.Proper.{both}

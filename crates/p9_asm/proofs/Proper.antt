@@ -1,5 +1,5 @@
 -- What the grammar of lines promises of the statements that it reads.
-use Rattle.std.proofs.Common.{◌≡◌, ℕ, ◌+◌, ◌-◌, ◌%◌, ◌^◌, ◌==◌, ◌<◌, ◌≤◌, leb, Bool, true, false, ◌&&◌, cond, List, [], ◌∷◌, take, drop, Option, Some, None, IfSome, position, slice_get, refl, ap, arith}
+use Rattle.std.proofs.Common.{◌≡◌, ℕ, ◌+◌, ◌%◌, ◌^◌, ◌==◌, ◌<◌, ◌≤◌, leb, Bool, true, false, ◌&&◌, cond, List, [], ◌∷◌, take, drop, Option, Some, None, IfSome, position, slice_get, refl, arith}
 use Rattle.std.specs.Prelude.{option_map, option_and_then}
 use Rattle.std.proofs.lemmas.Bool.Decides.{nat_tests}
 use Rattle.p9_abs.specs.declared.instructions.Op.{Op}
@@ -13,7 +13,7 @@ use Rattle.p9_statement.specs.declared.words.Directive.TheVariants as directives
 use Rattle.p9_statement.specs.declared.words.Sense.{Sense}
 use Rattle.p9_statement.specs.declared.words.Sense.TheVariants as senses
 use Rattle.p9_statement.specs.declared.lexemes.Lexeme.{Lexeme}
-use Rattle.p9_statement.specs.declared.lexemes.Lexeme.TheVariants.{Word, Number, Character, Text, Open, Close, Comma, Plus, Minus, Slash, Less, Greater, Colon, Dollar, LineEnd, Other}
+use Rattle.p9_statement.specs.declared.lexemes.Lexeme.TheVariants.{Word, Text, Close, Minus, Less, Greater, Colon, Dollar}
 use Rattle.p9_statement.specs.declared.operands.SymbolName.{SymbolName}
 use Rattle.p9_statement.specs.declared.operands.Argument.{Argument}
 use Rattle.p9_statement.specs.declared.operands.Argument.TheVariants as operands
@@ -25,7 +25,7 @@ use Rattle.p9_statement.specs.declared.statements.Statement.{Statement}
 use Rattle.p9_statement.specs.declared.statements.Statement.TheVariants as statements
 use Rattle.p9_statement.specs.declared.statements.Line.{Line}
 use Rattle.p9_statement.specs.Lexemes.{is_signature}
-use Rattle.p9_statement.specs.Operands.{is_open, only_number, negated, constant_of, offset_of, symbol_of, behind_symbol, if_nothing, only_symbol, base_of, displacement, argument_offset, argument_memory, below_entry, frame_offset, static_memory, memory_by, memory_at, memory_of, if_static, place_at, place_of, address_of, constant_or_address, special_of, plain_argument, label_argument, call_argument, last_argument}
+use Rattle.p9_statement.specs.Operands.{is_open, only_number, negated, constant_of, offset_of, symbol_of, behind_symbol, if_nothing, only_symbol, base_of, displacement, argument_offset, argument_memory, below_entry, frame_offset, memory_by, memory_at, memory_of, if_static, place_at, place_of, address_of, constant_or_address, special_of, plain_argument, label_argument, call_argument, last_argument}
 use Rattle.p9_statement.specs.Statements.{is_comma, is_slash, more_arguments, parted_arguments, arguments_of, is_calculation, completed_by, completed, is_form, formed, instruction_of, dollar_number, text_statement, globl_statement, type_statement, sized, address_value, constant_or_address_value, datum_of, data_statement, parted_data, directive_of, parted_directive, headed, statement_of, labelled, line_of}
 use Rattle.p9_rows.specs.Rows.{place_in}
 use Rattle.p9_asm.specs.Modules.{text_at}

@@ -1,6 +1,6 @@
 -- An instruction of a file without breaks is one of a valid module.
-use Rattle.std.proofs.Common.{◌≡◌, ◌≢◌, ℕ, zero, suc, ◌+◌, ◌-◌, ◌^◌, ◌<◌, ◌≤◌, leb, Bool, true, false, ◌&&◌, not, cond, List, [], ◌∷◌, ◌++◌, map, Option, Some, None, All, IfSome, unwrap_or, slice_get, refl, sym, ap, subst, ◌∙◌, arith}
-use Rattle.std.specs.Prelude.{is_some, IsSome, option_map, option_and_then, option_to_list}
+use Rattle.std.proofs.Common.{◌≡◌, ◌≢◌, ℕ, ◌+◌, ◌-◌, ◌^◌, ◌<◌, ◌≤◌, leb, Bool, true, false, ◌&&◌, cond, List, [], ◌∷◌, map, Option, Some, None, refl, sym, subst, ◌∙◌, arith}
+use Rattle.std.specs.Prelude.{is_some, IsSome}
 use Rattle.std.specs.Option.{option_or}
 use Rattle.std.specs.List.{list_all}
 use Rattle.std.proofs.lemmas.Bool.Decides.{nat_tests}
@@ -82,27 +82,39 @@ all_parts frame a rest h = both (is_within_frame frame a) (list_all (is_within_f
 
 operands_range : (tokens : List Token) (file : File) (f frame count : ℕ) (op : Op) (given : Arguments) → TargetsBelow file f count → AreArguments tokens given → list_all (is_within_frame frame) (listed given) ≡ true → reserved_among op given ≡ None → missing_among file (Some f) (listed given) ≡ None → Each (IsInRange frame count) (map (operand_of file f) (listed given))
 operands_range tokens file f frame count op Zero t h in_frame free found = tt
-operands_range tokens file f frame count op (One a) t h in_frame free found =
-    (argument_range tokens file f frame count a t h (all_parts frame a [] in_frame).0 (or_left (named_register a) (written_register (writes_last op) a) free)
-    (none_parts (missing_label file (label_in a) (Some f)) None found).0, tt)
+operands_range tokens file f frame count op (One a) t h in_frame free found = (
+  argument_range tokens file f frame count a t h (all_parts frame a [] in_frame).0 (or_left (named_register a) (written_register (writes_last op) a) free)
+      (none_parts (missing_label file (label_in a) (Some f)) None found).0,
+  tt,
+)
 operands_range tokens file f frame count op (Two a b) t h in_frame free found =
     let within = all_parts frame a (b ∷ []) in_frame in
     let free_of = none_parts (named_register a) (last_register op b) free in
-    let found_of = none_parts (missing_label file (label_in a) (Some f)) (missing_among file (Some f) (b ∷ [])) found in
-    (argument_range tokens file f frame count a t h.0 within.0 free_of.0 found_of.0,
-    (argument_range tokens file f frame count b t h.1 (all_parts frame b [] within.1).0 (or_left (named_register b) (written_register (writes_last op) b) free_of.1)
-    (none_parts (missing_label file (label_in b) (Some f)) None found_of.1).0, tt))
+    let found_of = none_parts (missing_label file (label_in a) (Some f)) (missing_among file (Some f) (b ∷ [])) found in (
+      argument_range tokens file f frame count a t h.0 within.0 free_of.0 found_of.0,
+      (
+        argument_range tokens file f frame count b t h.1 (all_parts frame b [] within.1).0 (or_left (named_register b) (written_register (writes_last op) b) free_of.1)
+            (none_parts (missing_label file (label_in b) (Some f)) None found_of.1).0,
+        tt,
+      ),
+    )
 operands_range tokens file f frame count op (Three a b c) t h in_frame free found =
     let within = all_parts frame a (b ∷ c ∷ []) in_frame in
     let within_more = all_parts frame b (c ∷ []) within.1 in
     let free_of = none_parts (option_or (named_register a) (named_register b)) (last_register op c) free in
     let free_both = none_parts (named_register a) (named_register b) free_of.0 in
     let found_of = none_parts (missing_label file (label_in a) (Some f)) (missing_among file (Some f) (b ∷ c ∷ [])) found in
-    let found_more = none_parts (missing_label file (label_in b) (Some f)) (missing_among file (Some f) (c ∷ [])) found_of.1 in
-    (argument_range tokens file f frame count a t h.0 within.0 free_both.0 found_of.0,
-    (argument_range tokens file f frame count b t h.1 within_more.0 free_both.1 found_more.0,
-    (argument_range tokens file f frame count c t h.2 (all_parts frame c [] within_more.1).0 (or_left (named_register c) (written_register (writes_last op) c) free_of.1)
-    (none_parts (missing_label file (label_in c) (Some f)) None found_more.1).0, tt)))
+    let found_more = none_parts (missing_label file (label_in b) (Some f)) (missing_among file (Some f) (c ∷ [])) found_of.1 in (
+      argument_range tokens file f frame count a t h.0 within.0 free_both.0 found_of.0,
+      (
+        argument_range tokens file f frame count b t h.1 within_more.0 free_both.1 found_more.0,
+        (
+          argument_range tokens file f frame count c t h.2 (all_parts frame c [] within_more.1).0 (or_left (named_register c) (written_register (writes_last op) c) free_of.1)
+              (none_parts (missing_label file (label_in c) (Some f)) None found_more.1).0,
+          tt,
+        ),
+      ),
+    )
 
 -- The operand that is written
 

@@ -1,5 +1,5 @@
 -- Which statement a line has that says a fact.
-use Rattle.std.proofs.Common.{◌≡◌, ℕ, ◌+◌, ◌<◌, ◌≤◌, Bool, true, false, ◌||◌, List, [], ◌∷◌, ◌++◌, Option, Some, None, refl, sym, ap, ◌∙◌, arith}
+use Rattle.std.proofs.Common.{◌≡◌, ℕ, ◌+◌, ◌<◌, ◌≤◌, Bool, true, false, ◌||◌, List, ◌++◌, Option, Some, None, refl, sym, ap, ◌∙◌, arith}
 use Rattle.p9_statement.specs.declared.operands.SymbolName.{SymbolName}
 use Rattle.p9_statement.specs.declared.statements.Arguments.{Arguments}
 use Rattle.p9_statement.specs.declared.statements.Arguments.TheVariants.{Zero, One, Two, Three}
@@ -11,8 +11,8 @@ use Rattle.p9_statement.specs.declared.statements.Line.{Line}
 use Rattle.p9_rows.specs.declared.rows.Place.{Place}
 use Rattle.p9_rows.specs.declared.rows.Row.{Row}
 use Rattle.p9_facts.specs.declared.facts.Fact.{Fact}
-use Rattle.p9_facts.specs.declared.facts.Fact.TheVariants.{Label, Instruction, Definition, Signature, Use, Value, Byte}
-use Rattle.p9_facts.specs.Facts.{same_fact, among, definition, signature, use_of, value_of, byte_of, symbol_in, symbol_at, used, label_facts, counted, argument_facts, arguments_facts, word_facts, datum_bytes, datum_facts, statement_facts, content_facts, says}
+use Rattle.p9_facts.specs.declared.facts.Fact.TheVariants.{Label, Instruction, Use}
+use Rattle.p9_facts.specs.Facts.{same_fact, among, definition, signature, use_of, byte_of, symbol_in, symbol_at, used, label_facts, counted, argument_facts, arguments_facts, word_facts, datum_bytes, datum_facts, statement_facts, content_facts, says}
 use Rattle.p9_facts.proofs.Noting.{same_fact_is, among_append}
 use Rattle.p9_asm.specs.Files.{statement_in}
 use Rattle.p9_asm.specs.Breaks.{width_of}
@@ -94,7 +94,7 @@ no_operation q h k f n given = neither q (counted f n) (arguments_facts given) (
 
 -- Statements that say a fact
 
-same_symbol : (s t : SymbolName) → s.word ≡ t.word → s.local ≡ t.local → s ≡ t
+pub same_symbol : (s t : SymbolName) → s.word ≡ t.word → s.local ≡ t.local → s ≡ t
 same_symbol s t e d =
     let made : ℕ → Bool → SymbolName = λ w l. record { word = w; local = l } in
     ap (λ w. made w s.local) e ∙ ap (made t.word) d

@@ -1,8 +1,8 @@
 -- The tokens of a file as lexemes, and its lines: each statement is proper.
-use Rattle.std.proofs.Common.{◌≡◌, ℕ, zero, suc, ◌+◌, ◌-◌, ◌*◌, ◌==◌, ◌<◌, ◌≤◌, leb, Bool, true, false, ◌&&◌, cond, List, [], ◌∷◌, map, Option, Some, None, IfSome, unwrap_or, slice_get, bytes_eq, refl, sym, ap, ◌∙◌, subst, arith}
+use Rattle.std.proofs.Common.{◌≡◌, ℕ, suc, ◌+◌, ◌-◌, ◌*◌, ◌==◌, ◌≤◌, leb, Bool, true, false, ◌&&◌, cond, List, [], ◌∷◌, map, Option, Some, None, IfSome, unwrap_or, slice_get, bytes_eq, refl, sym, ap, ◌∙◌, subst, arith}
 use Rattle.std.specs.Map.{lookup}
 use Rattle.std.specs.Option.{option_or}
-use Rattle.std.specs.List.{enumerate_from, position_from}
+use Rattle.std.specs.List.{enumerate_from}
 use Rattle.std.specs.Cmp.Lexicographic.{bytes_decides}
 use Rattle.std.proofs.lemmas.Bool.Decides.{nat_tests}
 use Rattle.p9_abs.specs.Validity.{IsName}
@@ -13,8 +13,8 @@ use Rattle.p9_statement.specs.declared.words.Sense.{Sense}
 use Rattle.p9_statement.specs.declared.words.Sense.TheVariants as senses
 use Rattle.p9_statement.specs.declared.lexemes.Lexeme.{Lexeme}
 use Rattle.p9_statement.specs.declared.lexemes.Lexeme.TheVariants as lexemes
-use Rattle.p9_statement.specs.Words.{move_words, sum_words, bit_words, product_words, branch_words, jump_words, directive_words, place_words, found, is_digit, two_digits, numbered, register_word, sense_of}
-use Rattle.p9_statement.specs.Lexemes.{mark_lexeme, is_signature, text_lexeme, lexeme_of}
+use Rattle.p9_statement.specs.Words.{move_words, sum_words, bit_words, product_words, branch_words, jump_words, directive_words, place_words, found, is_digit, numbered, register_word, sense_of}
+use Rattle.p9_statement.specs.Lexemes.{mark_lexeme, is_signature, lexeme_of}
 use Rattle.p9_statement.specs.Statements.{line_of}
 use Rattle.p9_rows.specs.declared.rows.Place.{Place}
 use Rattle.p9_rows.specs.declared.rows.Row.{Row}
@@ -22,7 +22,7 @@ use Rattle.p9_rows.specs.Rows.{spells, is_word, first_by, lexeme_by, place_in, l
 use Rattle.p9_asm.specs.Modules.{text_by, text_in, text_at}
 use Rattle.p9_asm.proofs.Options.{Each, if_or}
 use Rattle.p9_asm.proofs.Places.{found_first, somewhere}
-use Rattle.p9_asm.proofs.Proper.{both, IsNamed, IsSense, IsTextPlace, IsLexeme, IsProperLine, line_proper}
+use Rattle.p9_asm.proofs.Proper.{both, IsNamed, IsSense, IsLexeme, IsProperLine, line_proper}
 
 -- the names among the tokens are proper
 abbrev pub HasNames : List Token → Type 0
@@ -131,9 +131,10 @@ lexeme_by_kind tokens names i t kinds.End here is = tt
 lexemes_from : (tokens : List Token) → HasNames tokens → (i : ℕ) (rest : List Token) → ((k : ℕ) (t : Token) → slice_get rest k ≡ Some t → slice_get tokens (i + k) ≡ Some t) → Each (IsLexeme tokens) (map (lexeme_by (place_in tokens)) (enumerate_from i rest))
 lexemes_from tokens names i [] there = tt
 lexemes_from tokens names i (t ∷ rest) there =
-    let here = moved tokens (i + 0) i t (omega arith) (there 0 t refl) in
-    (lexeme_by_kind tokens names i t t.kind here refl,
-    lexemes_from tokens names (i + 1) rest (λ k u h. moved tokens (i + suc k) (i + 1 + k) u (omega arith) (there (suc k) u h)))
+    let here = moved tokens (i + 0) i t (omega arith) (there 0 t refl) in (
+      lexeme_by_kind tokens names i t t.kind here refl,
+      lexemes_from tokens names (i + 1) rest (λ k u h. moved tokens (i + suc k) (i + 1 + k) u (omega arith) (there (suc k) u h)),
+    )
 
 lexemes_proper : (tokens : List Token) → HasNames tokens → Each (IsLexeme tokens) (lexemes_of tokens)
 lexemes_proper tokens names = lexemes_from tokens names 0 tokens (λ k t h. moved tokens k (0 + k) t (omega arith) h)
