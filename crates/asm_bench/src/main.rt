@@ -11,14 +11,14 @@ use std::io;
 
 const BLOCKS: u32 = 20_000;
 
-const SMALL: [&str; 2] = [
-    "TEXT f(SB), $0\nRET\n",
-    "TEXT f(SB), $0\nADD $1, R2\nRET\n",
-];
+const SMALL: [&str; 2] = ["TEXT f(SB), $0\nRET\n", "TEXT f(SB), $0\nADD $1, R2\nRET\n"];
 
 // Ten lines: a function with a loop, and data that have its address.
 fn put_block(text: &mut String, n: u32) -> Result<(), AllocError> {
-    write!(text, "TEXT f{n}(SB), $8\n\tMOVW $x{n}+4(SB), R1 // the second word\n")?;
+    write!(
+        text,
+        "TEXT f{n}(SB), $8\n\tMOVW $x{n}+4(SB), R1 // the second word\n"
+    )?;
     write!(text, "again:\n\tADD $1, R1, R2\n\tBNE R1, R2, again\n")?;
     write!(text, "\tMOVW R2, t-4(SP)\n\tJAL f{n}(SB)\n\tRET\n")?;
     write!(text, "GLOBL x{n}(SB), $8\nDATA x{n}+0(SB)/4, $f{n}(SB)\n")
