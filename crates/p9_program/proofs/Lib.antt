@@ -8,3 +8,5 @@ pub mod Data
 pub mod Functions
 pub mod Names
 pub mod Codes
+pub mod Memory
+pub mod Contents
