@@ -10,3 +10,5 @@ pub mod Names
 pub mod Codes
 pub mod Memory
 pub mod Contents
+pub mod Words
+pub mod Beginning
