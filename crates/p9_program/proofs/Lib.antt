@@ -12,3 +12,4 @@ pub mod Memory
 pub mod Contents
 pub mod Words
 pub mod Beginning
+pub mod Whole
