@@ -1,14 +1,12 @@
 -- Before the first instruction the first objects of C stand in the data.
-use Rattle.std.proofs.Common.{◌≡◌, ◌≢◌, ◌≤◌, ◌<◌, ◌⊎◌, inl, inr, ℕ, zero, suc, ◌+◌, ◌-◌, ◌*◌, ◌/◌, ◌%◌, ◌^◌, Bool, true, false, Option, Some, None, List, [], ◌∷◌, ◌++◌, map, length, slice_get, slice_index, refl, sym, ap, ◌∙◌, subst, arith}
+use Rattle.std.proofs.Common.{◌≡◌, ◌≢◌, ◌≤◌, ◌<◌, ◌⊎◌, inl, inr, ℕ, zero, suc, ◌+◌, ◌*◌, ◌/◌, ◌^◌, Option, Some, None, List, [], ◌∷◌, map, length, slice_get, slice_index, refl, sym, ap, ◌∙◌, subst, arith}
 use Rattle.std.specs.Prelude.{flat_map, option_and_then, codes}
 use Rattle.std.proofs.lemmas.List.{length-append}
 use Rattle.p9_base.specs.Numbers.{word_bytes}
 use Rattle.p9_base.specs.Words.{word_sum}
-use Rattle.p9_base.specs.Core.{Core, text_start, stack_start, stack_end, low_end, read_byte}
-use Rattle.p9_base.specs.SystemCalls.{State}
+use Rattle.p9_base.specs.Core.{Core, read_byte}
 use Rattle.p9_base.specs.Holding.{AreBytes}
-use Rattle.p9_abs.specs.declared.instructions.TextDef.{TextDef}
-use Rattle.p9_abs.specs.declared.modules.Body.TheVariants.{Text, Data}
+use Rattle.p9_abs.specs.declared.modules.Body.TheVariants.{Data}
 use Rattle.p9_abs.specs.declared.modules.DataPiece.{DataPiece}
 use Rattle.p9_abs.specs.declared.modules.DataPiece.TheVariants.{Raw, Address}
 use Rattle.p9_abs.specs.declared.modules.Def.{Def}
@@ -17,29 +15,29 @@ use Rattle.p9_abs.specs.declared.modules.AModule.{AModule}
 use Rattle.p9_abs.specs.Modules.{pieces_size}
 use Rattle.p9_abs.specs.Names.{symbol_at}
 use Rattle.p9_abs.specs.BuiltIn.{builtin_symbols, local_symbol, linked}
-use Rattle.p9_abs.specs.Programs.{Numbered, records, chosen, stands_for, definition_of, data_objects, space_of, init_size, bss_size, piece_bytes, Placing, IsPlacing, address_of, address_of_definition, start_state}
+use Rattle.p9_abs.specs.Programs.{records, stands_for, data_objects, space_of, piece_bytes, Placing, IsPlacing, address_of_definition, start_state}
 use Rattle.p9_lang.specs.Modules.{Source}
-use Rattle.p9_cmean.specs.Cells.{Pointer, Into, Cell, Byte, Object}
+use Rattle.p9_cmean.specs.Cells.{Into, Object}
 use Rattle.p9_cmean.specs.Access.{number_cells, pointer_cells}
 use Rattle.p9_cmean.specs.Automatics.{live_object}
 use Rattle.p9_cmean.specs.Joins.{Join}
-use Rattle.p9_cmean.specs.Union.{Union, Entry, union_of, makers, entries_from}
-use Rattle.p9_cmean.specs.FirstContents.{first_cells, first_objects, start_objects, arguments_number, program_name_number}
+use Rattle.p9_cmean.specs.Union.{Union, Entry, union_of, entries_from}
+use Rattle.p9_cmean.specs.FirstContents.{first_cells, first_objects, start_objects, program_name_number}
 use Rattle.p9_sim.specs.Memory.{Map, HasAddress, Ground, word_of, moved_address, StandCells, Owner}
-use Rattle.p9_start.specs.Starting.{exit_bytes, exit_number, StandsFirst}
+use Rattle.p9_start.specs.Starting.{exit_bytes, StandsFirst}
 use Rattle.p9_systems.proofs.Cells.{same-or-not, stands-append}
 use Rattle.p9_program.specs.Linking.{AreTranslations, object_address, makers_of, ground_of}
 use Rattle.p9_program.specs.Whole.{builtin_address, first_map, IsBelow, ProgramsBegin}
 use Rattle.p9_program.proofs.Lists.{order, some-same, none-some, get-some, get-first, get-second, get-right, get-either, get-map, get-map-back, get-within}
 use Rattle.p9_program.proofs.Positions.{InOuts, records-back, places-differ}
 use Rattle.p9_program.proofs.Joined.{linked-builtin}
-use Rattle.p9_program.proofs.Objects.{makers-count, makers-rise, IsMade, made-of, stands-linked}
+use Rattle.p9_program.proofs.Objects.{makers-count, makers-rise, made-of, stands-linked}
 use Rattle.p9_program.proofs.Laying.{offset-apart}
 use Rattle.p9_program.proofs.Data.{numbered, HasPlace, data-place, has-space, place-address, data-address, IsInData, in-data}
 use Rattle.p9_program.proofs.Names.{made-place, made-static}
 use Rattle.p9_program.proofs.Memory as memory
 use Rattle.p9_program.proofs.Memory.{zero-length, data-space, low-is, data-bytes}
-use Rattle.p9_program.proofs.Contents.{numbers-stand, pointer-stands, static-first, Filled, made-filled}
+use Rattle.p9_program.proofs.Contents.{numbers-stand, pointer-stands, static-first, made-filled}
 use Rattle.p9_program.proofs.Words.{start-words}
 
 -- which definition an object's is

@@ -1,42 +1,40 @@
 -- The first contents of objects stand where the objects have their places.
-use Rattle.std.proofs.Common.{◌≡◌, ◌≢◌, ◌≤◌, ◌<◌, ◌⊎◌, inl, inr, ℕ, zero, suc, ◌+◌, ◌-◌, ◌*◌, ◌/◌, ◌%◌, ◌^◌, Bool, true, false, Option, Some, None, List, [], ◌∷◌, ◌++◌, map, length, slice_get, slice_index, refl, sym, ap, ◌∙◌, subst, arith}
-use Rattle.std.specs.Prelude.{sum_by, flat_map, unwrap_or, replicate, All, codes}
+use Rattle.std.proofs.Common.{◌≡◌, ◌≤◌, ◌<◌, ◌⊎◌, inl, inr, ℕ, zero, suc, ◌+◌, ◌*◌, ◌/◌, ◌^◌, true, Some, List, [], ◌∷◌, map, length, slice_get, slice_index, refl, sym, ap, ◌∙◌, subst, arith}
+use Rattle.std.specs.Prelude.{flat_map, replicate, All}
 use Rattle.std.proofs.lemmas.Bool.{true≢false}
 use Rattle.std.proofs.lemmas.List.{get_or_append_left, get_or-append-add, length-append}
 use Rattle.std.proofs.lemmas.List.Elements.{All-head, All-tail}
-use Rattle.std.proofs.lemmas.List.Sums.{sum_by-cons}
 use Rattle.p9_base.specs.Numbers.{word_bytes}
 use Rattle.p9_base.specs.Words.{word_sum}
-use Rattle.p9_base.specs.Core.{Core, stack_start, read_byte}
-use Rattle.p9_abs.specs.declared.modules.Body as body
-use Rattle.p9_abs.specs.declared.modules.Body.TheVariants.{Declared, Used, Text, Data, Common}
+use Rattle.p9_base.specs.Core.{Core, read_byte}
+use Rattle.p9_abs.specs.declared.modules.Body.TheVariants.{Data, Common}
 use Rattle.p9_abs.specs.declared.modules.DataPiece.{DataPiece}
 use Rattle.p9_abs.specs.declared.modules.DataPiece.TheVariants.{Raw, Address}
 use Rattle.p9_abs.specs.declared.modules.Def.{Def}
 use Rattle.p9_abs.specs.declared.modules.Symbol as abs
 use Rattle.p9_abs.specs.declared.modules.AModule.{AModule}
-use Rattle.p9_abs.specs.Modules.{piece_size, pieces_size, pieces_of, named_by_piece}
+use Rattle.p9_abs.specs.Modules.{pieces_of, named_by_piece}
 use Rattle.p9_abs.specs.Validity.{IsWithin, NamesWithin}
 use Rattle.p9_abs.specs.Names.{symbol_at}
 use Rattle.p9_abs.specs.BuiltIn.{linked}
-use Rattle.p9_abs.specs.Programs.{Numbered, space_of, piece_bytes, Placing, IsPlacing}
+use Rattle.p9_abs.specs.Programs.{space_of, piece_bytes, Placing, IsPlacing}
 use Rattle.p9_lang.specs.Layout.{size_of}
 use Rattle.p9_lang.specs.Modules.{Source}
 use Rattle.p9_lang.specs.Symbols as symbols
 use Rattle.p9_lang.specs.Symbols.{SymbolKind}
-use Rattle.p9_cmean.specs.Cells.{FunctionName, Pointer, Into, ToFunction, Cell, Unset, Byte, Part, Object}
+use Rattle.p9_cmean.specs.Cells.{FunctionName, Pointer, Into, ToFunction, Cell, Byte}
 use Rattle.p9_cmean.specs.Access.{pointer_cells}
 use Rattle.p9_cmean.specs.Joins.{Join}
 use Rattle.p9_cmean.specs.Union.{Union, Entry, is_common, union_of}
-use Rattle.p9_cmean.specs.FirstContents.{named_pointer, first_cells, zeros}
+use Rattle.p9_cmean.specs.FirstContents.{named_pointer, first_cells}
 use Rattle.p9_sim.specs.Memory.{Map, Ground, word_of, moved_address, StandsPart, StandCells}
-use Rattle.p9_sim.specs.Translating.{SameSymbol, IsTranslation, symbol_name, address_cells, piece_cells, pieces_cells}
+use Rattle.p9_sim.specs.Translating.{symbol_name, address_cells, piece_cells, pieces_cells}
 use Rattle.p9_systems.proofs.Cells.{stands-append}
 use Rattle.p9_program.specs.Linking.{AreTranslations, object_address, ground_of}
 use Rattle.p9_program.specs.Whole.{IsBelow, first_map}
-use Rattle.p9_program.proofs.Lists.{some-same, none-some, get-some, get-first, get-map}
+use Rattle.p9_program.proofs.Lists.{get-some, get-first, get-map}
 use Rattle.p9_program.proofs.Routines.{all-at}
-use Rattle.p9_program.proofs.Objects.{IsMade, made-body, same-symbol, stands-linked}
+use Rattle.p9_program.proofs.Objects.{IsMade, made-body, stands-linked}
 use Rattle.p9_program.proofs.Data.{numbered, HasPlace}
 use Rattle.p9_program.proofs.Names.{NamedIs, AnObject, AFunction, named-is, made-place}
 use Rattle.p9_program.proofs.Memory as memory
@@ -143,7 +141,7 @@ module _ (modules : List Source) (outs : List AModule) (tr : AreTranslations mod
         (piece-stands q start (All-head (λ x. IsWithin (length out.symbols) (named_by_piece x)) q pieces within) (λ i k. h i (omega (arith, k, l)) ∙ get_or_append_left (piece_bytes address q) (flat_map (piece_bytes address) pieces) 0 i k))
         (pieces-stand pieces (start + length (piece_cells (union_of modules) owner out q)) (All-tail (λ x. IsWithin (length out.symbols) (named_by_piece x)) q pieces within)
         (λ i k. let e : start + length (piece_cells (union_of modules) owner out q) + i ≡ start + (length (piece_bytes address q) + i) = omega (arith, n) in
-            ap byte e ∙ (h (length (piece_bytes address q) + i) (omega (arith, k, l)) ∙ get_or-append-add (piece_bytes address q) (flat_map (piece_bytes address) pieces) i 0)))
+        ap byte e ∙ (h (length (piece_bytes address q) + i) (omega (arith, k, l)) ∙ get_or-append-add (piece_bytes address q) (flat_map (piece_bytes address) pieces) i 0)))
 
     pub cells-length : (pieces : List DataPiece) → length (pieces_cells (union_of modules) owner out pieces) ≡ length (flat_map (piece_bytes (memory.symbols outs p owner)) pieces)
     cells-length [] = refl

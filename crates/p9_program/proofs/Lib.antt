@@ -13,3 +13,4 @@ pub mod Contents
 pub mod Words
 pub mod Beginning
 pub mod Whole
+pub mod Files

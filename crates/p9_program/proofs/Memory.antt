@@ -1,12 +1,11 @@
 -- The bytes of data before the first instruction.
-use Rattle.std.proofs.Common.{◌≡◌, ◌≢◌, ◌≤◌, ◌<◌, ◌⊎◌, inl, inr, ℕ, zero, suc, ◌+◌, ◌-◌, ◌*◌, ◌/◌, ◌%◌, Bool, true, false, Option, Some, None, List, [], ◌∷◌, ◌++◌, length, slice_get, slice_index, refl, sym, ap, ◌∙◌, subst, arith, append_assoc}
-use Rattle.std.specs.Prelude.{sum_by, flat_map, unwrap_or, replicate, All}
+use Rattle.std.proofs.Common.{◌≡◌, ◌≤◌, ◌<◌, ℕ, zero, suc, ◌+◌, ◌-◌, ◌*◌, ◌/◌, Some, List, [], ◌∷◌, ◌++◌, length, slice_get, slice_index, refl, sym, ap, ◌∙◌, arith, append_assoc}
+use Rattle.std.specs.Prelude.{flat_map, unwrap_or, replicate}
 use Rattle.std.proofs.lemmas.List.{get_or_append_left, get_or-append-add, length-append}
 use Rattle.std.proofs.lemmas.List.Sums.{sum_by-cons}
-use Rattle.p9_base.specs.Core.{Core, text_start, stack_start, low_end, read_byte}
+use Rattle.p9_base.specs.Core.{Core, text_start, low_end, read_byte}
 use Rattle.p9_base.specs.Numbers.{word_bytes}
-use Rattle.p9_abs.specs.declared.modules.Body as body
-use Rattle.p9_abs.specs.declared.modules.Body.TheVariants.{Declared, Used, Text, Data, Common}
+use Rattle.p9_abs.specs.declared.modules.Body.TheVariants.{Data, Common}
 use Rattle.p9_abs.specs.declared.modules.DataPiece.{DataPiece}
 use Rattle.p9_abs.specs.declared.modules.DataPiece.TheVariants.{Raw, Address}
 use Rattle.p9_abs.specs.declared.modules.Def.{Def}
@@ -16,13 +15,13 @@ use Rattle.p9_abs.specs.Modules.{size_of, piece_size, pieces_of, pieces_size}
 use Rattle.p9_abs.specs.Names.{symbol_at}
 use Rattle.p9_abs.specs.BuiltIn.{linked}
 use Rattle.p9_abs.specs.Runs.{Addresses}
-use Rattle.p9_abs.specs.Programs.{Numbered, inits_of, bss_of, space_of, offset_in, init_size, bss_size, data_objects, Placing, IsPlacing, addresses_of, piece_bytes, zero_bytes, object_bytes, init_bytes, start_core}
+use Rattle.p9_abs.specs.Programs.{Numbered, inits_of, bss_of, space_of, init_size, bss_size, Placing, IsPlacing, addresses_of, piece_bytes, zero_bytes, object_bytes, init_bytes, start_core}
 use Rattle.p9_systems.proofs.Bytes.{byte-low}
 use Rattle.p9_program.specs.Linking.{object_address}
 use Rattle.p9_program.specs.Whole.{IsBelow}
-use Rattle.p9_program.proofs.Lists.{some-same, none-some}
-use Rattle.p9_program.proofs.Laying.{IsLaid, laid, offset-first, offset-second, offset-low, flat-length, bytes-at}
-use Rattle.p9_program.proofs.Data.{numbered, in-inits, inits-back, HasPlace, place-address, IsInData, in-data}
+use Rattle.p9_program.proofs.Lists.{some-same}
+use Rattle.p9_program.proofs.Laying.{laid, offset-first, offset-second, offset-low, flat-length, bytes-at}
+use Rattle.p9_program.proofs.Data.{numbered, in-inits, inits-back, HasPlace, place-address}
 
 -- ZEROS
 

@@ -1,25 +1,22 @@
 -- The run of a program comes to what C comes to.
-use Rattle.std.proofs.Common.{◌≡◌, ◌≤◌, ◌<◌, ℕ, zero, suc, ◌+◌, ◌*◌, Bool, false, Option, Some, None, List, [], ◌∷◌, length, slice_get, refl, sym, ap, ◌∙◌, subst, arith}
+use Rattle.std.proofs.Common.{◌≡◌, ◌<◌, ℕ, Some, List, length, slice_get, refl, ap, ◌∙◌, arith}
 use Rattle.std.specs.Prelude.{option_and_then, codes}
 use Rattle.p9_base.specs.Words.{IsWord}
-use Rattle.p9_abs.specs.declared.modules.Body.TheVariants.{Text}
-use Rattle.p9_abs.specs.declared.modules.Def.{Def}
 use Rattle.p9_abs.specs.declared.modules.Symbol as abs
 use Rattle.p9_abs.specs.declared.modules.AModule.{AModule}
 use Rattle.p9_abs.specs.Names.{symbol_at}
-use Rattle.p9_abs.specs.BuiltIn.{start_code, system_symbol, used_main, linked}
+use Rattle.p9_abs.specs.BuiltIn.{system_symbol, used_main, linked}
 use Rattle.p9_abs.specs.Runs.{Routine, routine_at}
-use Rattle.p9_abs.specs.Programs.{Placing, IsPlacing, stands_for, address_of, address_of_definition, addresses_of, routines_of, start_state, arun}
+use Rattle.p9_abs.specs.Programs.{Placing, IsPlacing, stands_for, address_of_definition, addresses_of, routines_of, start_state}
 use Rattle.p9_lang.specs.Modules.{Source}
 use Rattle.p9_cmean.specs.Joins.{Join}
 use Rattle.p9_cmean.specs.SystemCalls.{Exits}
-use Rattle.p9_cmean.specs.Turns.{End, outcome_of, copied_of}
 use Rattle.p9_cmean.specs.Union.{union_of}
-use Rattle.p9_cmean.specs.CRun.{main_name, run_of, return_text, source_run}
+use Rattle.p9_cmean.specs.CRun.{main_name, source_run}
 use Rattle.p9_systems.specs.Systems.{system_def}
-use Rattle.p9_start.specs.Starting.{start_def, HasStart, RunComesTo}
+use Rattle.p9_start.specs.Starting.{start_def, HasStart}
 use Rattle.p9_start.proofs.Starting.{start_is_right}
-use Rattle.p9_program.specs.Linking.{AreTranslations, ground_of, HasMost}
+use Rattle.p9_program.specs.Linking.{AreTranslations, ground_of}
 use Rattle.p9_program.specs.Whole.{builtin_address, first_map, ProgramsAreRight, BudgetIsEnough}
 use Rattle.p9_program.proofs.Joined.{linked-builtin}
 use Rattle.p9_program.proofs.Routines.{IsFunctionAt, function-at, own-text}

@@ -1,5 +1,5 @@
 -- The state before the first instruction holds words and bytes.
-use Rattle.std.proofs.Common.{◌≡◌, ◌≤◌, ◌<◌, ◌⊎◌, inl, inr, ℕ, zero, suc, ◌+◌, ◌-◌, ◌/◌, ◌%◌, ◌^◌, Option, Some, None, List, [], ◌∷◌, ◌++◌, length, slice_get, refl, sym, ap, ◌∙◌, subst, arith}
+use Rattle.std.proofs.Common.{◌≡◌, ◌<◌, ◌⊎◌, inl, inr, ℕ, zero, suc, ◌-◌, ◌/◌, ◌%◌, ◌^◌, Some, List, [], ◌∷◌, ◌++◌, length, slice_get, refl, subst, arith}
 use Rattle.std.specs.Prelude.{flat_map, replicate, All, unwrap_or}
 use Rattle.std.specs.Prelude.{slice_set, nat_lt, true}
 use Rattle.std.specs.List.{list_all}
@@ -7,10 +7,8 @@ use Rattle.std.proofs.lemmas.Bool.{and_parts, ltb-true}
 use Rattle.std.proofs.lemmas.List.Elements.{All-nil, All-cons, All-append, All-set, All-replicate, All-head, All-tail}
 use Rattle.p9_base.specs.Numbers.{word_bytes}
 use Rattle.p9_base.specs.Words.{IsWord, word_sum}
-use Rattle.p9_base.specs.Core.{stack_start, stack_end}
+use Rattle.p9_base.specs.Core.{stack_end}
 use Rattle.p9_base.specs.Holding.{AreBytes, HoldsWords}
-use Rattle.p9_abs.specs.declared.modules.Body as body
-use Rattle.p9_abs.specs.declared.modules.Body.TheVariants.{Data}
 use Rattle.p9_abs.specs.declared.modules.DataPiece.{DataPiece}
 use Rattle.p9_abs.specs.declared.modules.DataPiece.TheVariants.{Raw, Address}
 use Rattle.p9_abs.specs.declared.modules.Def.{Def}
@@ -25,7 +23,7 @@ use Rattle.p9_lang.specs.Modules.{Source}
 use Rattle.p9_program.specs.Linking.{AreTranslations}
 use Rattle.p9_program.specs.Whole.{IsBelow}
 use Rattle.p9_program.proofs.Lists.{some-same, none-some}
-use Rattle.p9_program.proofs.Positions.{Found, found-symbol}
+use Rattle.p9_program.proofs.Positions.{found-symbol}
 use Rattle.p9_program.proofs.Joined.{linked-either}
 use Rattle.p9_program.proofs.Routines.{all-at}
 use Rattle.p9_program.proofs.Data.{inits-back}

@@ -1,17 +1,28 @@
 -- Programs of modules whose objects translate them: how they begin, and what they come to.
-use Rattle.std.specs.Prelude.{◌≡◌, ◌≤◌, ℕ, ◌+◌, ◌*◌, Option, Some, None, List, [], ◌∷◌, ◌++◌, map, length}
+use Rattle.std.specs.Prelude.{◌≡◌, ◌≤◌, ℕ, ◌+◌, ◌*◌, Some, None, List, [], ◌∷◌, ◌++◌, map, length, slice_get}
 use Rattle.p9_base.specs.Core.{text_start}
 use Rattle.p9_base.specs.Holding.{AreBytes}
 use Rattle.p9_abs.specs.declared.modules.AModule.{AModule}
 use Rattle.p9_abs.specs.Programs.{Placing, IsPlacing, address_of, start_state, arun}
+use Rattle.p9_object.specs.Fields.{spelling}
 use Rattle.p9_lang.specs.Modules.{Source}
 use Rattle.p9_cmean.specs.Joins.{Join}
 use Rattle.p9_cmean.specs.Turns.{copied_of}
 use Rattle.p9_cmean.specs.Union.{union_of}
 use Rattle.p9_cmean.specs.CRun.{run_of, source_run}
 use Rattle.p9_sim.specs.Memory.{Map, Ground}
+use Rattle.p9_sim.specs.Translating.{Translates}
 use Rattle.p9_start.specs.Starting.{StandsFirst, RunComesTo}
 use Rattle.p9_program.specs.Linking.{AreTranslations, ground_of, HasMost}
+
+-- FILES
+
+-- Files whose bytes translate modules, one by one, spell objects that are translations of them.
+abbrev pub FilesAreTranslated : Type 0
+FilesAreTranslated =
+    (modules : List Source) (files : List (List ℕ)) → length files ≡ length modules
+    → ((i : ℕ) (source : Source) (bytes : List ℕ) → slice_get modules i ≡ Some source → slice_get files i ≡ Some bytes → Translates source bytes)
+    → (outs : List AModule) × AreTranslations modules outs × ((i : ℕ) (out : AModule) → slice_get outs i ≡ Some out → slice_get files i ≡ Some (spelling out))
 
 -- THE BEGINNING
 

@@ -1,11 +1,16 @@
 // What holds of programs of translated modules, as contracts of functions that do nothing.
 ghost use Rattle.p9_program.specs.Linking.{CodesAreRight};
-ghost use Rattle.p9_program.specs.Whole.{ProgramsBegin, ProgramsAreRight, BudgetIsEnough};
+ghost use Rattle.p9_program.specs.Whole.{FilesAreTranslated, ProgramsBegin, ProgramsAreRight, BudgetIsEnough};
 
 /// Where objects translate modules that join, each function has its code in the program, and it is
 /// right, the system calls among them.
 pub fn codes_are_right()
     ensures { CodesAreRight }
+{}
+
+/// Files whose bytes translate modules spell objects that are translations of them.
+pub fn files_are_translated()
+    ensures { FilesAreTranslated }
 {}
 
 /// Before the first instruction the first objects of C stand in the data.
