@@ -1,0 +1,4 @@
+pub mod Naming
+pub mod Few
+pub mod Runs
+pub mod Telling

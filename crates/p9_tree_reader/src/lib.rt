@@ -1,0 +1,9 @@
+//! The reader of C's trees: one token after the other, over a stack of the nodes that are open, as
+//! the grammar's machine does.
+#![tactic(auto)]
+
+mod names;
+mod reader;
+mod steps;
+
+pub use reader::{ReadFault, Reader};
