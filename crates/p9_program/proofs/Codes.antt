@@ -1,10 +1,8 @@
 -- Each function of the union has its code in the program, which is right.
-use Rattle.std.proofs.Common.{◌≡◌, ◌≢◌, ◌≤◌, ◌<◌, ◌⊎◌, inl, inr, ℕ, zero, suc, ◌+◌, Bool, true, false, if◌then◌else◌, Option, Some, None, List, [], ◌∷◌, length, slice_get, refl, sym, ap, ◌∙◌, subst, arith}
-use Rattle.std.specs.Prelude.{option_and_then, codes}
+use Rattle.std.proofs.Common.{◌≡◌, ◌≢◌, ◌<◌, ℕ, Bool, true, false, if◌then◌else◌, Option, Some, None, List, [], length, slice_get, refl, sym, ap, ◌∙◌, subst, arith}
+use Rattle.std.specs.Prelude.{codes}
 use Rattle.std.proofs.lemmas.Bool.{true≢false}
-use Rattle.p9_base.specs.Words.{IsWord}
 use Rattle.p9_abs.specs.declared.instructions.TextDef.{TextDef}
-use Rattle.p9_abs.specs.declared.modules.Body as body
 use Rattle.p9_abs.specs.declared.modules.Body.TheVariants.{Text}
 use Rattle.p9_abs.specs.declared.modules.Def.{Def}
 use Rattle.p9_abs.specs.declared.modules.Symbol as abs
@@ -13,30 +11,27 @@ use Rattle.p9_abs.specs.Modules.{is_full}
 use Rattle.p9_abs.specs.Names.{symbol_at}
 use Rattle.p9_abs.specs.BuiltIn.{system_symbol, builtin_symbols, linked}
 use Rattle.p9_abs.specs.Runs.{Routine, routine_at}
-use Rattle.p9_abs.specs.Programs.{Numbered, Placing, IsPlacing, IsCodeAddress, address_of_definition, address_of, addresses_of, routines_of}
+use Rattle.p9_abs.specs.Programs.{Placing, IsPlacing, IsCodeAddress, address_of_definition, address_of, addresses_of, routines_of}
 use Rattle.p9_lang.specs.Names.{same_name}
 use Rattle.p9_lang.specs.Modules.{Source}
-use Rattle.p9_cmean.specs.Cells as c
-use Rattle.p9_cmean.specs.Cells.{FunctionName, Global, Local, Value}
-use Rattle.p9_cmean.specs.Plays.{Call, Play}
+use Rattle.p9_cmean.specs.Cells.{FunctionName, Global, Local}
 use Rattle.p9_cmean.specs.Joins.{Join}
-use Rattle.p9_cmean.specs.SystemCalls.{SystemCall, Exits, Read, Write, system_call, system_body}
-use Rattle.p9_cmean.specs.Union.{FunctionEntry, name_of, found_function, is_local_function, function_named, union_of}
-use Rattle.p9_cmean.specs.CRun.{Callee, System, Defined, NoCallee, defined, system_or, callee, callee_body, functions_of}
+use Rattle.p9_cmean.specs.SystemCalls.{SystemCall, Exits, Read, Write, system_call}
+use Rattle.p9_cmean.specs.Union.{FunctionEntry, found_function, is_local_function, function_named, union_of}
+use Rattle.p9_cmean.specs.CRun.{NoCallee, defined, system_or, callee, callee_body, functions_of}
 use Rattle.p9_sim.specs.Matching.{entry_of}
 use Rattle.p9_sim.specs.Playing.{AllSteps, first_count, Performs}
 use Rattle.p9_sim.specs.Functions.{setting_of, after_entry, FnOk}
-use Rattle.p9_sim.specs.Translating.{SameSymbol, IsTranslation, IsGround}
+use Rattle.p9_sim.specs.Translating.{SameSymbol, IsGround}
 use Rattle.p9_compose.specs.Calling.{HasCode}
-use Rattle.p9_systems.specs.Systems.{number_of, system_def, system_function}
+use Rattle.p9_systems.specs.Systems.{system_def, system_function}
 use Rattle.p9_systems.proofs.Systems.{systems_are_right}
 use Rattle.p9_program.specs.Linking.{AreTranslations, function_definition, ground_of, HasMost, CodesAreRight}
 use Rattle.p9_program.proofs.Lists.{some-same, none-some, same-is}
-use Rattle.p9_program.proofs.Positions.{Stands}
 use Rattle.p9_program.proofs.Joined.{linked-builtin, chosen-full}
-use Rattle.p9_program.proofs.Routines.{HasNumber, has-number, text-ends, text-address, function-own, function-code, IsFunctionAt, function-at}
+use Rattle.p9_program.proofs.Routines.{HasNumber, has-number, text-ends, text-address, function-own, function-code, function-at}
 use Rattle.p9_program.proofs.Objects.{same-symbol, stands-linked}
-use Rattle.p9_program.proofs.Functions.{IsText, found-text, is-local, name-local, name-global, local-name, global-name}
+use Rattle.p9_program.proofs.Functions.{IsText, found-text, is-local, name-local, name-global}
 use Rattle.p9_program.proofs.Names.{local-number, local-is, agrees}
 
 -- SYSTEM CALLS

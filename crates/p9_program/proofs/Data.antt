@@ -1,6 +1,6 @@
 -- Where the data objects of a program have their places.
-use Rattle.std.proofs.Common.{◌≡◌, ◌≢◌, ◌≤◌, ◌<◌, ◌⊎◌, inl, inr, ℕ, zero, suc, ◌+◌, ◌%◌, ◌&&◌, Bool, true, false, Option, Some, None, List, [], ◌∷◌, ◌++◌, filter, length, slice_get, refl, sym, ap, ◌∙◌, subst, arith}
-use Rattle.std.specs.Prelude.{sum_by, unwrap_or}
+use Rattle.std.proofs.Common.{◌≡◌, ◌≤◌, ◌<◌, ◌⊎◌, inl, inr, ℕ, ◌+◌, ◌%◌, true, Some, List, length, slice_get, refl, sym, ap, ◌∙◌, arith}
+use Rattle.std.specs.Prelude.{unwrap_or}
 use Rattle.std.proofs.lemmas.Bool.{true≢false, and_parts}
 use Rattle.std.proofs.lemmas.List.Sums.{sum_by-append}
 use Rattle.p9_base.specs.Core.{stack_start}
@@ -13,12 +13,12 @@ use Rattle.p9_abs.specs.declared.modules.Symbol as abs
 use Rattle.p9_abs.specs.declared.modules.AModule.{AModule}
 use Rattle.p9_abs.specs.Names.{symbol_at}
 use Rattle.p9_abs.specs.BuiltIn.{linked}
-use Rattle.p9_abs.specs.Programs.{Numbered, records, stands_for, is_data, is_common_body, is_its_own, is_bss, inits_of, bss_of, space_of, offset_in, data_objects, init_size, bss_size, Placing, IsPlacing, routines_of, routine_number, placed_at, address_of_definition}
+use Rattle.p9_abs.specs.Programs.{Numbered, records, stands_for, is_data, is_common_body, is_its_own, is_bss, inits_of, bss_of, space_of, offset_in, data_objects, init_size, bss_size, Placing, IsPlacing, placed_at, address_of_definition}
 use Rattle.p9_program.specs.Linking.{object_address}
-use Rattle.p9_program.proofs.Lists.{some-same, none-some, get-first, get-second, get-either, filter-at, filter-back}
+use Rattle.p9_program.proofs.Lists.{some-same, get-first, get-second, get-either, filter-at, filter-back}
 use Rattle.p9_program.proofs.Positions.{symbol-of, record-of}
 use Rattle.p9_program.proofs.Routines.{no-number}
-use Rattle.p9_program.proofs.Laying.{same-def-self, IsLaid, laid, HasSpace}
+use Rattle.p9_program.proofs.Laying.{same-def-self, laid, HasSpace}
 
 abbrev pub numbered : Def → abs.Symbol → Numbered
 numbered d s = record { def = d; symbol = s }

@@ -1,17 +1,12 @@
 -- The functions of the union, and the texts that stand where they are defined.
-use Rattle.std.proofs.Common.{◌≡◌, ◌≢◌, ◌≤◌, ◌<◌, ◌⊎◌, inl, inr, ℕ, zero, suc, ◌+◌, ◌&&◌, ◌||◌, ◌==◌, Bool, true, false, not, if◌then◌else◌, Option, Some, None, List, [], ◌∷◌, ◌++◌, length, slice_get, refl, sym, ap, ◌∙◌, subst, arith}
-use Rattle.std.specs.Prelude.{flat_map, option_and_then, IsSome}
-use Rattle.std.specs.List.{list_any}
+use Rattle.std.proofs.Common.{◌≡◌, ◌⊎◌, inl, inr, ℕ, zero, suc, ◌+◌, ◌==◌, Bool, true, false, if◌then◌else◌, Option, Some, None, List, [], ◌∷◌, length, slice_get, refl, sym, ap, ◌∙◌, subst, arith}
+use Rattle.std.specs.Prelude.{flat_map, IsSome}
 use Rattle.std.proofs.lemmas.Bool.{true≢false, and_parts}
 use Rattle.std.proofs.lemmas.Bool.Decides.{nat_tests}
 use Rattle.p9_abs.specs.declared.instructions.TextDef.{TextDef}
 use Rattle.p9_abs.specs.declared.modules.Body as body
 use Rattle.p9_abs.specs.declared.modules.Body.TheVariants.{Declared, Used, Text, Data, Common}
-use Rattle.p9_abs.specs.declared.modules.Def.{Def}
-use Rattle.p9_abs.specs.declared.modules.Symbol as abs
 use Rattle.p9_abs.specs.declared.modules.AModule.{AModule}
-use Rattle.p9_abs.specs.Names.{symbol_at}
-use Rattle.p9_abs.specs.BuiltIn.{linked}
 use Rattle.p9_abs.specs.Programs.{Numbered}
 use Rattle.p9_lang.specs.Names.{same_name}
 use Rattle.p9_lang.specs.Layout.{size_of}
@@ -22,12 +17,12 @@ use Rattle.p9_cmean.specs.Cells.{FunctionName, Global, Local}
 use Rattle.p9_cmean.specs.Access.{same_function}
 use Rattle.p9_cmean.specs.Declarations.{Definition, definition_of}
 use Rattle.p9_cmean.specs.Joins.{Join}
-use Rattle.p9_cmean.specs.Union.{Entry, entries_from, FunctionEntry, name_of, function_entry, functions_in, is_function, found_function, is_local_function, function_named, union_of, need_of}
-use Rattle.p9_sim.specs.Translating.{SameKind, SameSymbol, IsTranslation}
+use Rattle.p9_cmean.specs.Union.{Entry, entries_from, FunctionEntry, name_of, function_entry, functions_in, is_function, found_function, is_local_function, union_of, need_of}
+use Rattle.p9_sim.specs.Translating.{SameKind}
 use Rattle.p9_program.specs.Linking.{AreTranslations}
 use Rattle.p9_program.proofs.Lists.{some-same, none-some, get-first, get-second, get-either, any-at, any-found, same-is, same-self}
 use Rattle.p9_program.proofs.Positions.{Stands}
-use Rattle.p9_program.proofs.Objects.{entry-stands, same-symbol, stands-linked}
+use Rattle.p9_program.proofs.Objects.{entry-stands, same-symbol}
 
 -- NAMES
 

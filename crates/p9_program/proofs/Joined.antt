@@ -1,6 +1,6 @@
 -- Of modules that join: a global name has one full definition at most, which is its chosen one.
-use Rattle.std.proofs.Common.{◌≡◌, ◌≢◌, ◌≤◌, ◌<◌, ◌⊎◌, inl, inr, ℕ, zero, suc, ◌+◌, Bool, true, false, not, if◌then◌else◌, Option, Some, None, List, [], ◌∷◌, ◌++◌, map, filter, length, slice_get, refl, sym, ap, ◌∙◌, subst, arith}
-use Rattle.std.specs.Prelude.{Contains, unwrap_or, option_and_then, codes, IsTrue}
+use Rattle.std.proofs.Common.{◌≡◌, ◌<◌, ◌⊎◌, inl, inr, ℕ, zero, suc, ◌+◌, Bool, true, false, not, if◌then◌else◌, Option, Some, None, List, [], ◌∷◌, map, filter, length, slice_get, refl, sym, ap, ◌∙◌, subst, arith}
+use Rattle.std.specs.Prelude.{Contains, unwrap_or, option_and_then, codes}
 use Rattle.std.proofs.lemmas.Bool.{true≢false}
 use Rattle.p9_abs.specs.declared.modules.Body as body
 use Rattle.p9_abs.specs.declared.modules.Body.TheVariants.{Declared, Used, Text, Data, Common}
@@ -8,20 +8,19 @@ use Rattle.p9_abs.specs.declared.modules.Def.{Def}
 use Rattle.p9_abs.specs.declared.modules.Symbol as abs
 use Rattle.p9_abs.specs.declared.modules.AModule.{AModule}
 use Rattle.p9_abs.specs.Modules.{is_definition, is_full}
-use Rattle.p9_abs.specs.Names.{symbol_at, Occurs as OccursAt, Defines, IsChosen}
+use Rattle.p9_abs.specs.Names.{symbol_at, Defines, IsChosen}
 use Rattle.p9_abs.specs.BuiltIn.{builtin_symbols, builtin_module, linked}
 use Rattle.p9_abs.specs.Programs.{chosen}
 use Rattle.p9_abs.proofs.Choosing.{chosen_is_chosen, none_is_undefined}
 use Rattle.p9_lang.specs.Names.{same_name}
-use Rattle.p9_lang.specs.Types.{Tags}
 use Rattle.p9_lang.specs.Modules.{Source}
 use Rattle.p9_lang.specs.Symbols as symbols
 use Rattle.p9_lang.specs.Symbols.{Symbol, SymbolKind}
 use Rattle.p9_lang.specs.Layout.{size_of}
-use Rattle.p9_cmean.specs.Joins.{Role, Declares, Uses, DefinesCode, DefinesData, DefinesCommon, role_of, Occurrence, occurrence, shared, builtin, all_shared, Occurs, may_meet, Join}
-use Rattle.p9_sim.specs.Translating.{SameKind, SameSymbol, IsTranslation}
+use Rattle.p9_cmean.specs.Joins.{Role, DefinesCode, DefinesData, DefinesCommon, role_of, Occurrence, occurrence, shared, builtin, all_shared, Occurs, may_meet, Join}
+use Rattle.p9_sim.specs.Translating.{SameKind}
 use Rattle.p9_program.specs.Linking.{AreTranslations}
-use Rattle.p9_program.proofs.Lists.{order, split, some-same, none-some, get-left, get-right, get-first, get-second, get-either, get-within, get-some, get-map, contains-at, filter-at}
+use Rattle.p9_program.proofs.Lists.{order, some-same, none-some, get-right, get-first, get-either, get-within, get-some, get-map, contains-at, filter-at}
 use Rattle.p9_program.proofs.Positions.{Found, found-symbol}
 
 abbrev RoleIs : body.Body → Role → Type 0

@@ -8,3 +8,9 @@ pub mod Data
 pub mod Functions
 pub mod Names
 pub mod Codes
+pub mod Memory
+pub mod Contents
+pub mod Words
+pub mod Beginning
+pub mod Whole
+pub mod Files

@@ -1,5 +1,5 @@
 -- What the names of a module's symbols stand for in C has the addresses of the symbols.
-use Rattle.std.proofs.Common.{◌≡◌, ◌≢◌, ◌≤◌, ◌<◌, ◌⊎◌, inl, inr, ℕ, zero, suc, ◌+◌, ◌%◌, ◌^◌, ◌&&◌, ◌||◌, ◌==◌, Bool, true, false, not, if◌then◌else◌, Option, Some, None, List, [], ◌∷◌, map, length, slice_get, refl, sym, ap, ◌∙◌, subst, arith}
+use Rattle.std.proofs.Common.{◌≡◌, ◌<◌, ◌⊎◌, inl, inr, ℕ, ◌^◌, ◌&&◌, ◌||◌, ◌==◌, Bool, true, false, not, if◌then◌else◌, Option, Some, None, List, [], map, slice_get, refl, sym, ap, ◌∙◌, subst, arith}
 use Rattle.std.specs.Prelude.{option_map, option_and_then}
 use Rattle.std.proofs.lemmas.Bool.{true≢false, and_parts}
 use Rattle.std.proofs.lemmas.Bool.Decides.{nat_tests}
@@ -14,28 +14,27 @@ use Rattle.p9_abs.specs.declared.modules.Symbol as abs
 use Rattle.p9_abs.specs.declared.modules.AModule.{AModule}
 use Rattle.p9_abs.specs.Modules.{is_definition}
 use Rattle.p9_abs.specs.Validity.{IsBoundWell}
-use Rattle.p9_abs.specs.Names.{symbol_at}
+use Rattle.p9_abs.specs.Names.{symbol_at, IsChosen}
+use Rattle.p9_abs.proofs.Choosing.{chosen_is_chosen}
 use Rattle.p9_abs.specs.BuiltIn.{linked}
-use Rattle.p9_abs.specs.Programs.{Numbered, records, chosen, stands_for, definition_of, Placing, IsPlacing, address_of_definition, address_of}
+use Rattle.p9_abs.specs.Programs.{Numbered, records, chosen, stands_for, Placing, IsPlacing, address_of_definition, address_of}
 use Rattle.p9_lang.specs.Names.{same_name}
 use Rattle.p9_lang.specs.Layout.{size_of}
 use Rattle.p9_lang.specs.Modules.{Source}
-use Rattle.p9_lang.specs.Symbols as symbols
-use Rattle.p9_lang.specs.Symbols.{Symbol, SymbolKind}
-use Rattle.p9_cmean.specs.Cells.{FunctionName, Global, Local, Pointer, Into, ToFunction}
+use Rattle.p9_cmean.specs.Cells.{FunctionName, Global, Local, Into, ToFunction}
 use Rattle.p9_cmean.specs.Joins.{Join}
 use Rattle.p9_cmean.specs.Union.{Union, Entry, entries_from, is_data, is_common, makes_object, is_local_of, is_shared_of, number_from, first_some, object_number, is_local_function, union_of}
 use Rattle.p9_cmean.specs.FirstContents.{into, or_function, named_pointer}
 use Rattle.p9_sim.specs.Memory.{word_of, moved_address}
-use Rattle.p9_sim.specs.Translating.{SameKind, SameSymbol, IsTranslation, Agrees}
+use Rattle.p9_sim.specs.Translating.{SameKind, SameSymbol, Agrees}
 use Rattle.p9_program.specs.Linking.{AreTranslations, is_local_named, symbols_in, local_definition, object_address, makers_of, ground_of}
-use Rattle.p9_program.proofs.Lists.{some-same, none-some, get-map, get-within, number-found, number-there, same-is, same-of, IsFirst}
-use Rattle.p9_program.proofs.Positions.{Found, found-symbol, Stands}
+use Rattle.p9_program.proofs.Lists.{some-same, get-map, number-found, number-there, same-is, same-of, IsFirst}
+use Rattle.p9_program.proofs.Positions.{Stands}
 use Rattle.p9_program.proofs.Joined.{linked-module}
-use Rattle.p9_program.proofs.Routines.{all-at, own-text}
+use Rattle.p9_program.proofs.Routines.{all-at, has-number, text-address, function-code}
 use Rattle.p9_program.proofs.Objects.{passed, maker-there, body-data, body-common, HasEntry, has-entry, same-symbol, stands-linked, IsMade, made-of, made-body, made-chosen, made-stands-for}
-use Rattle.p9_program.proofs.Data.{numbered, HasPlace, data-place, common-place, place-address, data-address, IsInData, in-data}
-use Rattle.p9_program.proofs.Functions.{IsText, local-text, is-local, local-name}
+use Rattle.p9_program.proofs.Data.{numbered, HasPlace, data-place, common-place, data-address, IsInData, in-data}
+use Rattle.p9_program.proofs.Functions.{local-text, is-local, local-name}
 
 number-same : (a b : ℕ) → (a == b) ≡ true → a ≡ b
 number-same a b h = grind (arith, nat_tests)
@@ -74,10 +73,44 @@ module _ (modules : List Source) (outs : List AModule) (tr : AreTranslations mod
   pub made-in-data : (n : ℕ) (e : Entry) → (k : IsMade modules outs tr join n e) → IsInData outs p placing k.it.def k.it.symbol (object_address outs p (Some k.it))
   made-in-data n e k = in-data outs p placing k.it.def k.it.symbol (made-place n e k)
 
+  -- addresses of definitions are words
+  text-small : (d : Def) (s : abs.Symbol) (def : TextDef) → symbol_at (linked outs) d ≡ Some s → s.body ≡ Text def → address_of_definition outs p (Some d) < 2 ^ 32
+  text-small d s def e b =
+      let n = has-number outs d s def e b in
+      let a = text-address modules outs tr join p placing d def n in
+      let c = (function-code modules outs tr join p placing n.number _ n.found).0.2 in
+      omega (arith, a, c)
+
+  chosen-small : (name : List ℕ) (o : Option Def) → chosen (linked outs) name ≡ o → address_of_definition outs p (chosen (linked outs) name) < 2 ^ 32
+  chosen-small name None z = subst (λ o. address_of_definition outs p o < 2 ^ 32) (sym z) (omega arith)
+  chosen-small name (Some d) z = subst (λ o. address_of_definition outs p o < 2 ^ 32) (sym z) (by (chosen_is_chosen (linked outs) name d z))
+    where
+      by : IsChosen (linked outs) name d → address_of_definition outs p (Some d) < 2 ^ 32
+      by c = go c.defines.symbol.body refl
+        where
+          q : abs.Symbol
+          q = c.defines.symbol
+
+          at-data : ((def : TextDef) → c.defines.symbol.body ≡ Text def → ⊥) → HasPlace outs d c.defines.symbol → address_of_definition outs p (Some d) < 2 ^ 32
+          at-data never k =
+              let a = data-address outs p placing d c.defines.symbol c.defines.occurs.stands never in
+              let i = (in-data outs p placing d c.defines.symbol k).below in
+              omega (arith, a, i)
+
+          go : (b : body.Body) → c.defines.symbol.body ≡ b → address_of_definition outs p (Some d) < 2 ^ 32
+          go (Text def) e = text-small d c.defines.symbol def c.defines.occurs.stands e
+          go (Data pieces) e = at-data (λ def h. let y : Data pieces ≡ Text def = sym e ∙ h in cc) (data-place outs d c.defines.symbol pieces c.defines.occurs.stands e)
+          go (Common n) e =
+              at-data (λ def h. let y : Common n ≡ Text def = sym e ∙ h in cc)
+              (common-place outs d c.defines.symbol n c.defines.occurs.stands e
+              (ap (λ v. if v then Some d else chosen (linked outs) c.defines.symbol.name) c.defines.occurs.global ∙ (ap (chosen (linked outs)) c.defines.occurs.named ∙ z)))
+          go Declared e = absurd (true≢false (sym c.defines.defining ∙ ap is_definition e))
+          go Used e = absurd (true≢false (sym c.defines.defining ∙ ap is_definition e))
+
   -- what a symbol's name stands for: an object, or a function
   pub data NamedIs (owner : ℕ) (name : List ℕ) (address : ℕ) : Type 0 where
     AnObject : (n start : ℕ) → ((o : ℕ) → named_pointer (union_of modules) owner name o ≡ Into n o) → (let g = ground_of modules outs p in slice_get g.statics n ≡ Some start) → start ≡ address → start < stack_start → NamedIs owner name address
-    AFunction : (f : FunctionName) → ((o : ℕ) → named_pointer (union_of modules) owner name o ≡ ToFunction f) → (let g = ground_of modules outs p in g.function f ≡ address) → NamedIs owner name address
+    AFunction : (f : FunctionName) → ((o : ℕ) → named_pointer (union_of modules) owner name o ≡ ToFunction f) → (let g = ground_of modules outs p in g.function f ≡ address) → address < 2 ^ 32 → NamedIs owner name address
 
   module _ (owner : ℕ) (out : AModule) (is_out : slice_get outs owner ≡ Some out) (k : ℕ) (b : abs.Symbol) (is_symbol : slice_get out.symbols k ≡ Some b) where
     abbrev d : Def
@@ -155,6 +188,7 @@ module _ (modules : List Source) (outs : List AModule) (tr : AreTranslations mod
         AFunction (Local owner b.name)
         (λ o. ap (λ z. if z then ToFunction (Local owner b.name) else or_function (into (object_number (union_of modules) owner b.name) o) (Global b.name)) f)
         (ap (address_of_definition outs p) (local-number l) ∙ sym (symbol-address (Some d) (ap (λ z. if z then Some d else chosen (linked outs) b.name) l)))
+        (let a = symbol-address (Some d) (ap (λ z. if z then Some d else chosen (linked outs) b.name) l) in let s = text-small d b def (linked-module outs d b at) t in omega (arith, a, s))
 
     local-object : b.local ≡ true → ((def : TextDef) → b.body ≡ Text def → ⊥) → (makes_object (entries_from 0 modules) (passed [] (entries_from 0 modules) here.place) here.entry ≡ true) → NamedIs owner b.name (address_of outs p d)
     local-object l never makes = go first.0 first.1 (number-found 0 (is_local_of owner b.name) union.objects first.0 first.1)
@@ -237,8 +271,9 @@ module _ (modules : List Source) (outs : List AModule) (tr : AreTranslations mod
         by None None e f =
             AFunction (Global b.name)
             (λ o. ap (λ z. if z then ToFunction (Local owner b.name) else or_function (into (object_number (union_of modules) owner b.name) o) (Global b.name)) no
-                ∙ ap (λ w. or_function (into w o) (Global b.name)) (ap (λ w. first_some w (number_from 0 (is_shared_of b.name) union.objects)) e ∙ f))
+            ∙ ap (λ w. or_function (into w o) (Global b.name)) (ap (λ w. first_some w (number_from 0 (is_shared_of b.name) union.objects)) e ∙ f))
             (sym here_address)
+            (let s = chosen-small b.name (chosen (linked outs) b.name) refl in let a = here_address in omega (arith, a, s))
 
     pub named-is : NamedIs owner b.name (address_of outs p d)
     named-is = by b.local refl
@@ -278,5 +313,5 @@ module _ (modules : List Source) (outs : List AModule) (tr : AreTranslations mod
           let z : word_sum start 0 ≡ start = omega (arith, low) in
           ap (word_of (ground_of modules outs p) (let g = ground_of modules outs p in map Some g.statics)) (pointer 0)
           ∙ (ap (λ o. moved_address o 0) (get-map Some (let g = ground_of modules outs p in g.statics) n start static) ∙ ap Some (z ∙ same))
-      by (AFunction f pointer same) =
+      by (AFunction f pointer same small) =
           ap (word_of (ground_of modules outs p) (let g = ground_of modules outs p in map Some g.statics)) (pointer 0) ∙ ap Some same

@@ -1,20 +1,18 @@
 -- The objects of the union, and the records that stand where they are made.
-use Rattle.std.proofs.Common.{◌≡◌, ◌≢◌, ◌≤◌, ◌<◌, ◌⊎◌, inl, inr, ℕ, zero, suc, ◌+◌, ◌&&◌, ◌||◌, ◌==◌, Bool, true, false, not, if◌then◌else◌, Option, Some, None, List, [], ◌∷◌, ◌++◌, length, slice_get, refl, sym, ap, ◌∙◌, subst, arith}
+use Rattle.std.proofs.Common.{◌≡◌, ◌≤◌, ◌<◌, ◌⊎◌, inl, inr, ℕ, zero, suc, ◌+◌, ◌&&◌, ◌||◌, Bool, true, false, not, if◌then◌else◌, Option, Some, None, List, [], ◌∷◌, length, slice_get, refl, sym, ap, ◌∙◌, subst, arith}
 use Rattle.std.specs.Prelude.{option_and_then}
 use Rattle.std.specs.List.{list_any}
-use Rattle.std.proofs.lemmas.Bool.{true≢false, and_parts, or_parts}
-use Rattle.std.proofs.lemmas.Bool.Decides.{nat_tests}
-use Rattle.p9_abs.specs.declared.instructions.TextDef.{TextDef}
+use Rattle.std.proofs.lemmas.Bool.{true≢false}
 use Rattle.p9_abs.specs.declared.modules.Body as body
 use Rattle.p9_abs.specs.declared.modules.Body.TheVariants.{Declared, Used, Text, Data, Common}
 use Rattle.p9_abs.specs.declared.modules.DataPiece.{DataPiece}
 use Rattle.p9_abs.specs.declared.modules.Def.{Def}
 use Rattle.p9_abs.specs.declared.modules.Symbol as abs
 use Rattle.p9_abs.specs.declared.modules.AModule.{AModule}
-use Rattle.p9_abs.specs.Modules.{pieces_size, is_definition, is_full}
+use Rattle.p9_abs.specs.Modules.{is_definition, is_full}
 use Rattle.p9_abs.specs.Names.{symbol_at, IsBefore, IsNotAfter, Defines, IsChosen}
 use Rattle.p9_abs.specs.BuiltIn.{builtin_symbols, linked}
-use Rattle.p9_abs.specs.Programs.{Numbered, records, chosen, stands_for, definition_of}
+use Rattle.p9_abs.specs.Programs.{Numbered, chosen, stands_for, definition_of}
 use Rattle.p9_abs.proofs.Choosing.{chosen_is_chosen, none_is_undefined}
 use Rattle.p9_lang.specs.Names.{same_name}
 use Rattle.p9_lang.specs.Layout.{size_of}
@@ -22,11 +20,11 @@ use Rattle.p9_lang.specs.Modules.{Source}
 use Rattle.p9_lang.specs.Symbols as symbols
 use Rattle.p9_lang.specs.Symbols.{Symbol, SymbolKind}
 use Rattle.p9_cmean.specs.Joins.{Join}
-use Rattle.p9_cmean.specs.Union.{Entry, entries_from, is_data, is_common, is_shared_of, is_shared_data, is_shared_common, makes_object, makers, union_of}
-use Rattle.p9_sim.specs.Translating.{SameKind, SameSymbol, IsTranslation}
+use Rattle.p9_cmean.specs.Union.{Entry, entries_from, is_data, is_common, is_shared_data, is_shared_common, makes_object, makers, union_of}
+use Rattle.p9_sim.specs.Translating.{SameKind, SameSymbol}
 use Rattle.p9_program.specs.Linking.{AreTranslations, makers_from, makers_of}
-use Rattle.p9_program.proofs.Lists.{order, some-same, none-some, get-within, get-some, any-at, same-of}
-use Rattle.p9_program.proofs.Positions.{Found, found-symbol, symbol-of, record-of, Stands, SameShape, shape-of, stands-of, stands-entry, place-before}
+use Rattle.p9_program.proofs.Lists.{some-same, none-some, get-within, get-some, any-at, same-of}
+use Rattle.p9_program.proofs.Positions.{found-symbol, symbol-of, Stands, SameShape, shape-of, stands-of, stands-entry, place-before}
 use Rattle.p9_program.proofs.Joined.{linked-either, linked-module, common-code, chosen-full, defines-of}
 
 -- MAKERS

@@ -1,5 +1,5 @@
 -- The symbols of modules and of their objects stand at the same places, in the order of modules and symbols.
-use Rattle.std.proofs.Common.{◌≡◌, ◌≢◌, ◌≤◌, ◌<◌, ◌⊎◌, inl, inr, ℕ, zero, suc, ◌+◌, ◌-◌, Option, Some, None, List, [], ◌∷◌, ◌++◌, length, slice_get, refl, sym, ap, ◌∙◌, subst, arith}
+use Rattle.std.proofs.Common.{◌≡◌, ◌≤◌, ◌<◌, ◌⊎◌, inl, inr, ℕ, zero, suc, ◌+◌, Option, Some, None, List, [], ◌∷◌, length, slice_get, refl, sym, ap, ◌∙◌, subst, arith}
 use Rattle.std.specs.Prelude.{option_and_then}
 use Rattle.p9_abs.specs.declared.modules.Def.{Def}
 use Rattle.p9_abs.specs.declared.modules.Symbol as abs
@@ -10,8 +10,6 @@ use Rattle.p9_lang.specs.Types.{Tags}
 use Rattle.p9_lang.specs.Modules.{Source}
 use Rattle.p9_lang.specs.Symbols.{Symbol, symbols}
 use Rattle.p9_cmean.specs.Union.{Entry, entries_of, entries_from}
-use Rattle.p9_sim.specs.Translating.{IsTranslation}
-use Rattle.p9_program.specs.Linking.{AreTranslations}
 use Rattle.p9_program.proofs.Lists.{order, some-same, none-some, get-first, get-second, get-either, get-within, get-some}
 
 -- ONE LIST

@@ -1,7 +1,7 @@
 -- The functions of a program, by their definitions and addresses.
-use Rattle.std.proofs.Common.{◌≡◌, ◌≢◌, ◌≤◌, ◌<◌, ◌⊎◌, inl, inr, ℕ, zero, suc, ◌+◌, ◌&&◌, ◌==◌, Bool, true, false, if◌then◌else◌, Option, Some, None, List, [], ◌∷◌, ◌++◌, length, slice_get, refl, sym, ap, ◌∙◌, subst, arith}
+use Rattle.std.proofs.Common.{◌≡◌, ◌<◌, ◌⊎◌, inl, inr, ℕ, zero, suc, ◌+◌, ◌==◌, Bool, true, false, if◌then◌else◌, Option, Some, None, List, [], ◌∷◌, ◌++◌, length, slice_get, refl, sym, ap, ◌∙◌, subst, arith}
 use Rattle.std.specs.Prelude.{option_and_then, All}
-use Rattle.std.proofs.lemmas.Bool.{true≢false, and_parts}
+use Rattle.std.proofs.lemmas.Bool.{and_parts}
 use Rattle.std.proofs.lemmas.Bool.Decides.{nat_tests}
 use Rattle.std.proofs.lemmas.List.Elements.{All-head, All-tail}
 use Rattle.p9_abs.specs.declared.instructions.TextDef.{TextDef}
@@ -15,12 +15,12 @@ use Rattle.p9_abs.specs.Names.{symbol_at}
 use Rattle.p9_abs.specs.BuiltIn.{start_code, system_code, builtin_symbols, linked}
 use Rattle.p9_abs.specs.Validity.{EndsWell, HasFunction}
 use Rattle.p9_abs.specs.Runs.{Routine, Addresses, routine_at}
-use Rattle.p9_abs.specs.Programs.{Numbered, numbered_from, records, chosen, stands_for, definition_of, routine_of, routines_in, routines_of, is_routine, routine_number, Placing, placed_at, address_of_definition, address_of, addresses_of, IsCodeAddress, IsFunctionPlaced, IsPlacing}
+use Rattle.p9_abs.specs.Programs.{Numbered, records, chosen, stands_for, definition_of, routine_of, routines_in, routines_of, is_routine, routine_number, Placing, placed_at, address_of_definition, address_of, addresses_of, IsCodeAddress, IsPlacing}
 use Rattle.p9_lang.specs.Modules.{Source}
 use Rattle.p9_cmean.specs.Joins.{Join}
 use Rattle.p9_program.specs.Linking.{AreTranslations}
-use Rattle.p9_program.proofs.Lists.{order, some-same, none-some, get-first, get-second, get-either, get-within}
-use Rattle.p9_program.proofs.Positions.{Found, found-symbol, symbol-of, record-of}
+use Rattle.p9_program.proofs.Lists.{order, some-same, none-some, get-first, get-second, get-either}
+use Rattle.p9_program.proofs.Positions.{found-symbol, symbol-of, record-of}
 use Rattle.p9_program.proofs.Joined.{linked-either, linked-module, linked-builtin, chosen-full}
 
 text-same : (a b : TextDef) → Text a ≡ Text b → a ≡ b

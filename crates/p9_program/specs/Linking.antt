@@ -1,6 +1,6 @@
 -- Objects that translate modules which join: the addresses that a placing gives to what C knows, and
 -- that each function has its code.
-use Rattle.std.specs.Prelude.{◌≡◌, ◌≢◌, ◌≤◌, ℕ, zero, suc, ◌+◌, ◌&&◌, Bool, true, false, Option, Some, None, option_map, unwrap_or, if◌then◌else◌, List, [], ◌∷◌, map, length, slice_get}
+use Rattle.std.specs.Prelude.{◌≡◌, ◌≢◌, ◌≤◌, ℕ, suc, ◌+◌, ◌&&◌, Bool, Option, Some, None, option_map, unwrap_or, if◌then◌else◌, List, [], ◌∷◌, map, length, slice_get}
 use Rattle.p9_abs.specs.declared.modules.Def.{Def}
 use Rattle.p9_abs.specs.declared.modules.Symbol.{Symbol}
 use Rattle.p9_abs.specs.declared.modules.AModule.{AModule}

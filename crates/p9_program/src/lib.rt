@@ -4,4 +4,4 @@
 
 mod laws;
 
-pub use laws::codes_are_right;
+pub use laws::{codes_are_right, files_are_translated, programs_are_right, programs_begin};

@@ -1,5 +1,5 @@
 -- When the bytes of an object translate a module of C.
-use Rattle.std.specs.Prelude.{◌≡◌, ◌≢◌, ◌⊎◌, ◌<◌, ℕ, zero, suc, Option, Some, None, IsSome, if◌then◌else◌, List, [], length, map, flat_map, slice_get, Contains}
+use Rattle.std.specs.Prelude.{◌≡◌, ◌≢◌, ◌⊎◌, ◌<◌, ℕ, zero, suc, Option, Some, None, IsSome, if◌then◌else◌, List, [], ◌∷◌, length, map, flat_map, slice_get, Contains}
 use Rattle.p9_abs.specs.declared.instructions.TextDef.{TextDef}
 use Rattle.p9_abs.specs.declared.modules.DataPiece.{DataPiece}
 use Rattle.p9_abs.specs.declared.modules.DataPiece.TheVariants.{Raw, Address}
@@ -17,7 +17,7 @@ use Rattle.p9_lang.specs.Modules.{Source}
 use Rattle.p9_lang.specs.Symbols as symbols
 use Rattle.p9_lang.specs.Symbols.{Symbol, SymbolKind}
 use Rattle.p9_sig.specs.Texts.{signature_text}
-use Rattle.p9_cmean.specs.Cells.{FunctionName, Pointer, Into, ToFunction, Cell, Byte}
+use Rattle.p9_cmean.specs.Cells.{FunctionName, Pointer, Into, ToFunction, Cell, Unset, Byte}
 use Rattle.p9_cmean.specs.Access.{pointer_cells}
 use Rattle.p9_cmean.specs.Declarations.{definition_of}
 use Rattle.p9_cmean.specs.Joins.{Join}
@@ -60,11 +60,11 @@ abbrev pub symbol_name : Option abs.Symbol → List ℕ
 symbol_name None = []
 symbol_name (Some symbol) = symbol.name
 
--- the cells of an address that was moved by an offset: a function's isn't
+-- the cells of an address that was moved by an offset: a function's that was moved is nothing in C
 abbrev pub address_cells : Pointer → (offset : ℕ) → List Cell
 address_cells (Into object at) offset = pointer_cells (Into object at)
 address_cells (ToFunction function) zero = pointer_cells (ToFunction function)
-address_cells (ToFunction function) (suc n) = []
+address_cells (ToFunction function) (suc n) = Unset ∷ Unset ∷ Unset ∷ Unset ∷ []
 
 -- the cells that a piece of data stands for, in a program where this is module `owner`
 abbrev pub piece_cells : Union → (owner : ℕ) → AModule → DataPiece → List Cell
