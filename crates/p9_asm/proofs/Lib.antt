@@ -17,3 +17,7 @@ pub mod Listed
 pub mod Celled
 pub mod Bodies
 pub mod Valid
+pub mod Sized
+pub mod Small
+pub mod Numerous
+pub mod Fitting

@@ -149,7 +149,7 @@ line_each : (P : Lexeme → Type 0) (b : Bool) (l : Lexeme) (lines : List (List 
 line_each P true l lines h k = (tt, k)
 line_each P false l lines h k = first_each P l lines h k
 
-lines_each : (P : Lexeme → Type 0) (xs : List Lexeme) → Each P xs → Each (Each P) (lines_of xs)
+pub lines_each : (P : Lexeme → Type 0) (xs : List Lexeme) → Each P xs → Each (Each P) (lines_of xs)
 lines_each P [] h = (tt, tt)
 lines_each P (l ∷ rest) h = line_each P (is_line_end l) l (lines_of rest) h.0 (lines_each P rest h.1)
 

@@ -4,6 +4,7 @@ ghost use Rattle.p9_lex.specs.declared.token.Dialect.TheVariants.{Asm};
 ghost use Rattle.p9_lex.specs.Tokens.{lexed};
 ghost use Rattle.p9_lex.specs.Made.{AreTokens};
 ghost use Rattle.p9_abs.specs.Validity.{IsValid};
+ghost use Rattle.p9_object.specs.Laws.{Fits};
 ghost use Rattle.p9_asm.specs.Files.{file_in};
 ghost use Rattle.p9_asm.specs.Breaks.{shown, unfinished};
 ghost use Rattle.p9_asm.specs.Modules.{symbols_by};
@@ -155,6 +156,7 @@ fn lexed(alloc: Global, bytes: &[u8]) -> Result<Tokens, AsmFault>
 pub fn assemble(alloc: Global, bytes: &[u8]) -> Result<AModule, AsmFault>
     ensures module { IfOk result (λ m. assembled bytes.now ≡ Ok m) }
     ensures valid { IfOk result IsValid }
+    ensures fits { IfOk result Fits }
     ensures refused { IfErr result (IsRefusal bytes.now) }
 {
     let tokens = lexed(alloc, bytes)?;
