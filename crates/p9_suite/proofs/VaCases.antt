@@ -1,6 +1,5 @@
 -- The ways on which `va` comes to its result, each with its calls on the store.
 use Rattle.std.proofs.Common.{◌≡◌, ◌≢◌, ℕ, List, [], ◌∷◌, ◌++◌, map, Option, Result, Ok, Err, refl, sym, ap, ◌∙◌, subst}
-use Rattle.p9_abs.specs.Validity.{IsValid}
 use Rattle.p9_abs.specs.declared.modules.AModule.{AModule}
 use Rattle.p9_asm.specs.Assembled.{assembled}
 use Rattle.p9_asm.specs.declared.fault.AsmFault.{AsmFault}
@@ -9,6 +8,7 @@ use Rattle.p9_base.specs.Outside.{FileCall, ReadCall, WriteCall}
 use Rattle.p9_base.specs.declared.outside.FileFault.TheVariants as store
 use Rattle.p9_base.specs.declared.outside.Got.TheVariants as got
 use Rattle.p9_object.specs.Fields.{spelling}
+use Rattle.p9_object.specs.Laws.{IsObject}
 use Rattle.p9_suite.proofs.Tidy.{OnlyReads, Tidy, file_reads, reads_tidy, no_usage, assembly_fine}
 use Rattle.p9_suite.specs.Answers.{status}
 use Rattle.p9_suite.specs.Stages.{stops, goes_on, ReadsFile, found, WritesFile, written, write_fault, write_no_memory, output_no_memory}
@@ -28,9 +28,9 @@ pub data VaCase (va : Va) : Result Answer Refusal → List FileCall → Type 0 w
   refused : (text : List ℕ) (why : AsmFault) → assembled text ≡ Err why → VaCase va (Err (Assembly va.file why)) (text_read va text ∷ [])
   not_assembled : (text : List ℕ) → VaCase va (Err Memory) (text_read va text ∷ [])
   unwritten : (text : List ℕ) (m : AModule) (why : Refusal) (own : List FileCall) → WritesFile va.output (spelling m) (Err why) own → VaCase va (Err why) (text_read va text ∷ own)
-  done : (text : List ℕ) (m : AModule) → assembled text ≡ Ok m → IsValid m → VaCase va (Ok Done) (text_read va text ∷ WriteCall va.output (spelling m) (Ok tt) ∷ [])
+  done : (text : List ℕ) (m : AModule) → assembled text ≡ Ok m → IsObject m → VaCase va (Ok Done) (text_read va text ∷ WriteCall va.output (spelling m) (Ok tt) ∷ [])
 
-wrote : (va : Va) (text : List ℕ) (m : AModule) → assembled text ≡ Ok m → IsValid m → (r : Result Answer Refusal) (calls : List FileCall) → WritesObject va.output (spelling m) r calls → VaCase va r (text_read va text ∷ calls)
+wrote : (va : Va) (text : List ℕ) (m : AModule) → assembled text ≡ Ok m → IsObject m → (r : Result Answer Refusal) (calls : List FileCall) → WritesObject va.output (spelling m) r calls → VaCase va r (text_read va text ∷ calls)
 wrote va text m is valid _ _ (stops why calls s) = unwritten text m why calls s
 wrote va text m is valid r _ (goes_on _ _ _ behind written (e, n)) =
     subst (λ (x : Result Answer Refusal). VaCase va x (text_read va text ∷ WriteCall va.output (spelling m) (Ok tt) ∷ behind)) (sym e)

@@ -1,7 +1,6 @@
 -- The clause of `va`.
 use Rattle.std.proofs.Common.{◌≡◌, ◌≢◌, ℕ, List, [], ◌∷◌, map, Option, Some, Result, Ok, Err, refl, sym, ap, ◌∙◌, subst}
 use Rattle.std.specs.Prelude.{IsSomeAnd}
-use Rattle.p9_abs.specs.Validity.{IsValid}
 use Rattle.p9_abs.specs.declared.modules.AModule.{AModule}
 use Rattle.p9_asm.specs.Assembled.{assembled}
 use Rattle.p9_asm.specs.declared.fault.AsmFault.{AsmFault}

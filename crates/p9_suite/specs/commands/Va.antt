@@ -1,13 +1,13 @@
 -- The command `va`: an assembler file is read, assembled, and its object written.
 use Rattle.std.specs.Prelude.{◌≡◌, ◌≢◌, ◌&&◌, ℕ, List, [], ◌∷◌, Option, Some, None, if◌then◌else◌, codes, IfSome, IsSomeAnd, Result, Ok, Err}
 use Rattle.std.specs.Str.{bytes_eq}
-use Rattle.p9_abs.specs.Validity.{IsValid}
 use Rattle.p9_abs.specs.declared.modules.AModule.{AModule}
 use Rattle.p9_asm.specs.Assembled.{assembled}
 use Rattle.p9_asm.specs.declared.fault.AsmFault.{AsmFault}
 use Rattle.p9_base.specs.Calls.{Call}
 use Rattle.p9_base.specs.Outside.{FileCall}
 use Rattle.p9_object.specs.Fields.{spelling}
+use Rattle.p9_object.specs.Laws.{IsObject}
 use Rattle.p9_suite.specs.declared.answer.Answer.{Answer}
 use Rattle.p9_suite.specs.declared.answer.Answer.TheVariants.{Done, Refused}
 use Rattle.p9_suite.specs.declared.answer.Refusal.{Refusal}
@@ -48,7 +48,7 @@ va_seen va = record { output = output_of va.output va.file.now; file = va.file.n
 
 -- a text is assembled, and the module spelled as an object
 pub data Assembles {C : Type 0} (name text : List ℕ) : Result (List ℕ) Refusal → List C → Type 0 where
-  assembles : (m : AModule) → assembled text ≡ Ok m → IsValid m → Assembles name text (Ok (spelling m)) []
+  assembles : (m : AModule) → assembled text ≡ Ok m → IsObject m → Assembles name text (Ok (spelling m)) []
   refuses : (why : AsmFault) → assembled text ≡ Err why → Assembles name text (Err (Assembly name why)) []
   assemble_no_memory : Assembles name text (Err Memory) []
 
@@ -63,11 +63,11 @@ VaStages va = OnStore (AssemblesFile va)
 
 -- What it says of its call
 
--- the answer, by the module that the text is, or why it is none: a module is valid, and its one spelling stands in the
--- store
+-- the answer, by the module that the text is, or why it is none: a module has an object, its one spelling, and that
+-- stands in the store
 abbrev pub OfText : {I O F : Type 0} → Scene I O F → Va → Result AModule AsmFault → Type 0
 OfText call va (Err why) = IsAnswer call (Refused (Assembly va.file why))
-OfText call va (Ok m) = IsAnswer call Done × IsValid m × IsSomeAnd (held_now call) (λ now. now va.output ≡ Some (spelling m))
+OfText call va (Ok m) = IsAnswer call Done × IsObject m × IsSomeAnd (held_now call) (λ now. now va.output ≡ Some (spelling m))
 
 -- and by what is at the file's name
 abbrev pub OfFile : {I O F : Type 0} → Scene I O F → Va → Option (List ℕ) → Type 0

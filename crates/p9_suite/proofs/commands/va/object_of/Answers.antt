@@ -14,7 +14,7 @@ pub returns-in_ok-write_obj-in-Ok : goal.returns-in_ok-write_obj-in-Ok
 returns-in_ok-write_obj-in-Ok c =
     spelled c.args.name.now c.args.text.now c.in_ok-write_obj-in-Ok.field-0 c.in-Ok.module
     (subst (λ (x : List ℕ). assembled x ≡ Ok c.in-Ok.module) (c.deref.ensures.value ∙ c.text.view_is) c.in-Ok.ensures.module)
-    c.in-Ok.ensures.valid c.in_ok-write_obj-in-Ok.ensures.spelling
+    (record { valid = c.in-Ok.ensures.valid; fits = c.in-Ok.ensures.fits }) c.in_ok-write_obj-in-Ok.ensures.spelling
 
 pub returns-in-Err : goal.returns-in-Err
 returns-in-Err c =
