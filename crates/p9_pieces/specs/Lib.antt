@@ -1,0 +1,4 @@
+pub mod Callees
+pub mod Ways
+pub mod Functions
+pub mod Pieces
