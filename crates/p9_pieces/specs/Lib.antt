@@ -2,3 +2,4 @@ pub mod Callees
 pub mod Ways
 pub mod Functions
 pub mod Pieces
+pub mod Laws

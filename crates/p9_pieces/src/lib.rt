@@ -5,9 +5,11 @@
 
 mod callees;
 mod functions;
+mod laws;
 mod walking;
 
 pub use callees::Callees;
+pub use laws::piece_laws;
 pub use walking::{Pieces, program_pieces};
 
 #[cfg(test)]

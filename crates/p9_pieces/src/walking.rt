@@ -1,7 +1,9 @@
 // The walk over all functions and instructions.
-ghost use Rattle.std.specs.Prelude.{◌≡◌, ◌+◌, ◌∷◌, ◌++◌, [], OnOk, IfOk, length};
+ghost use Rattle.std.specs.Prelude.{◌≡◌, ◌≤◌, ◌+◌, ◌∷◌, ◌++◌, [], OnOk, IfOk, length};
 ghost use Rattle.p9_abs.specs.Forms.{decoded};
 ghost use Rattle.p9_lines.specs.FormLines.{start_lines, entry_lines};
+ghost use Rattle.p9_text.specs.Weights.{text_weight};
+ghost use Rattle.p9_lines.specs.Weights.{words_needed};
 ghost use Rattle.p9_pieces.specs.Callees.{callee_of};
 ghost use Rattle.p9_pieces.specs.Functions.{scope};
 ghost use Rattle.p9_pieces.specs.Pieces.{form_lines, code_pieces, function_pieces, pieces_from, joined, starts_from};
@@ -108,6 +110,7 @@ pub fn program_pieces(
 ) -> Result<Pieces, NoMemory>
     ensures lines { IfOk result (λ p. p.lines.items ≡ start_lines unit symbol offset ++ joined (pieces_from (callee_of callees.now) 0 routines.now)) }
     ensures starts { IfOk result (λ p. p.starts.items ≡ starts_from 2 (pieces_from (callee_of callees.now) 0 routines.now)) }
+    ensures words { IfOk result (λ p. words_needed p.lines.items ≤ text_weight routines.now) }
 {
     let mut pieces = Pieces {
         lines: Vec::new(alloc),
