@@ -1,5 +1,5 @@
 -- Where instructions lead, by their numbers in the text.
-use Rattle.std.specs.Prelude.{ℕ, ◌+◌, ◌&&◌, nat_le, Bool, false, Option, Some, None, option_map, List, [], ◌∷◌, slice_get, slice_index, length, nat_lt, if◌then◌else◌}
+use Rattle.std.specs.Prelude.{ℕ, ◌+◌, ◌&&◌, nat_le, Bool, false, Option, Some, None, List, [], ◌∷◌, slice_index, length, nat_lt, if◌then◌else◌}
 use Rattle.p9_abs.specs.declared.instructions.Abs.{Abs}
 use Rattle.p9_abs.specs.declared.forms.Form.{Form}
 use Rattle.p9_abs.specs.declared.forms.Form.TheVariants as forms
