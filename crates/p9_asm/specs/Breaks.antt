@@ -1,6 +1,6 @@
 -- How a line breaks a rule: what it shows with the lines before it, and what later lines or the end of
 -- the file show. On one line the break of the least number counts.
-use Rattle.std.specs.Prelude.{ℕ, ◌+◌, ◌==◌, nat_lt, Bool, true, false, not, ◌&&◌, ◌||◌, Option, Some, None, is_some, option_map, option_and_then, if◌then◌else◌}
+use Rattle.std.specs.Prelude.{ℕ, ◌+◌, ◌==◌, nat_lt, Bool, true, false, not, ◌&&◌, ◌||◌, List, [], ◌∷◌, Option, Some, None, is_some, option_map, option_and_then, if◌then◌else◌}
 use Rattle.std.specs.Option.{option_or}
 use Rattle.std.specs.List.{list_all, list_any}
 use Rattle.p9_abs.specs.declared.instructions.Op.{Op}
@@ -8,14 +8,12 @@ use Rattle.p9_abs.specs.declared.instructions.Op.TheVariants.{Ret, Jmp}
 use Rattle.p9_statement.specs.declared.operands.SymbolName.{SymbolName}
 use Rattle.p9_statement.specs.declared.operands.Argument.{Argument}
 use Rattle.p9_statement.specs.declared.operands.Argument.TheVariants as operands
-use Rattle.p9_statement.specs.declared.statements.Arguments.{Arguments}
-use Rattle.p9_statement.specs.declared.statements.Arguments.TheVariants.{Zero, One, Two, Three}
 use Rattle.p9_statement.specs.declared.statements.Datum.{Datum}
 use Rattle.p9_statement.specs.declared.statements.Datum.TheVariants as data_values
 use Rattle.p9_statement.specs.declared.statements.Statement.{Statement}
 use Rattle.p9_statement.specs.declared.statements.Statement.TheVariants as statements
 use Rattle.p9_statement.specs.declared.statements.Line.{Line}
-use Rattle.p9_statement.specs.Statements.{reserved_register, fits_frame}
+use Rattle.p9_statement.specs.Statements.{listed, reserved_register, fits_frame}
 use Rattle.p9_rows.specs.declared.rows.Place.{Place}
 use Rattle.p9_rows.specs.declared.rows.Row.{Row}
 use Rattle.p9_facts.specs.declared.facts.Fact.{Fact}
@@ -134,19 +132,17 @@ abbrev pub label_in : Argument → Option ℕ
 label_in (operands.Label w) = Some w
 label_in _ = None
 
--- the label of a branch stands last
-abbrev pub target_in : Arguments → Option ℕ
-target_in Zero = None
-target_in (One a) = label_in a
-target_in (Two a b) = label_in b
-target_in (Three a b c) = label_in c
-
 abbrev pub missing_label : File → (target function : Option ℕ) → Option Break
 missing_label file (Some w) (Some f) = if is_some (file.first (Label f w)) then None else Some (NoLabel w)
 missing_label file _ _ = None
 
+-- the first label among operands that the function doesn't have
+abbrev pub missing_among : File → (function : Option ℕ) → List Argument → Option Break
+missing_among file function [] = None
+missing_among file function (a ∷ rest) = option_or (missing_label file (label_in a) function) (missing_among file function rest)
+
 abbrev pub no_label : File → (function : Option ℕ) → Option Statement → Option Break
-no_label file function (Some (statements.Instruction op given)) = missing_label file (target_in given) function
+no_label file function (Some (statements.Instruction op given)) = missing_among file function (listed given)
 no_label file function _ = None
 
 abbrev pub unfinished_by : File → (index : ℕ) → Place → Option Line → Option Break

@@ -1,7 +1,9 @@
 // The module of a text, or why the text is refused.
-ghost use Rattle.std.specs.Prelude.{◌≡◌, ◌≤◌, ◌<◌, ◌^◌, length, IfOk, IfErr, Ok, Err};
+ghost use Rattle.std.specs.Prelude.{◌≡◌, ◌≤◌, ◌<◌, ◌^◌, length, IfOk, IfErr, true, false, Ok, Err};
 ghost use Rattle.p9_lex.specs.declared.token.Dialect.TheVariants.{Asm};
 ghost use Rattle.p9_lex.specs.Tokens.{lexed};
+ghost use Rattle.p9_lex.specs.Made.{AreTokens};
+ghost use Rattle.p9_abs.specs.Validity.{IsValid};
 ghost use Rattle.p9_asm.specs.Files.{file_in};
 ghost use Rattle.p9_asm.specs.Breaks.{shown, unfinished};
 ghost use Rattle.p9_asm.specs.Modules.{symbols_by};
@@ -140,6 +142,7 @@ fn lex_fault(fault: LexFault) -> AsmFault
 fn lexed(alloc: Global, bytes: &[u8]) -> Result<Tokens, AsmFault>
     ensures tokens { IfOk result (λ t. lexed Asm bytes.now ≡ Ok t.list.items) }
     ensures few { IfOk result (λ t. length t.list.items ≤ 2 ^ 25) }
+    ensures made { IfOk result (λ t. AreTokens Asm 0 true false bytes.now t.list.items) }
     ensures refused { IfErr result (IsRefusal bytes.now) }
 {
     match lex(alloc, bytes, Dialect::Asm) {
@@ -151,6 +154,7 @@ fn lexed(alloc: Global, bytes: &[u8]) -> Result<Tokens, AsmFault>
 /// The module of a text in the assembler's language.
 pub fn assemble(alloc: Global, bytes: &[u8]) -> Result<AModule, AsmFault>
     ensures module { IfOk result (λ m. assembled bytes.now ≡ Ok m) }
+    ensures valid { IfOk result IsValid }
     ensures refused { IfErr result (IsRefusal bytes.now) }
 {
     let tokens = lexed(alloc, bytes)?;

@@ -1,10 +1,12 @@
 // Breaks of a line that later lines, or the end of the file, show.
 ghost use Rattle.std.specs.Prelude.{◌≡◌, ◌+◌, ◌||◌, ◌&&◌, ◌<◌, ◌^◌, not, option_to_list};
 ghost use Rattle.std.specs.List.{list_any};
+ghost use Rattle.std.specs.Option.{option_or};
+ghost use Rattle.p9_statement.specs.Statements.{listed};
 ghost use Rattle.p9_facts.specs.Facts.{symbol_in, symbol_at};
 ghost use Rattle.p9_facts.specs.Names.{names_in, names_of_statement};
 ghost use Rattle.p9_asm.specs.Files.{file_in};
-ghost use Rattle.p9_asm.specs.Breaks.{is_past, is_outside_size, is_outside, is_undefined, may_end, is_unended, names_nothing, label_in, target_in, missing_label, no_label, unfinished_by, unfinished};
+ghost use Rattle.p9_asm.specs.Breaks.{is_past, is_outside_size, is_outside, is_undefined, may_end, is_unended, names_nothing, label_in, missing_label, missing_among, no_label, unfinished_by, unfinished};
 
 use crate::breaks::{Break, end_of, size_at};
 use crate::tables::Tables;
@@ -138,18 +140,6 @@ fn label_in(argument: Argument) -> Option<u32>
     }
 }
 
-// The label that a branch names, which stands last.
-fn target_in(given: Arguments) -> Option<u32>
-    ensures { result ≡ target_in given }
-{
-    match given {
-        Arguments::Zero => None,
-        Arguments::One(a) => label_in(a),
-        Arguments::Two(_, b) => label_in(b),
-        Arguments::Three(_, _, c) => label_in(c),
-    }
-}
-
 fn missing_label(tables: &Tables, target: Option<u32>, function: Option<u32>) -> Option<Break>
     ensures { result ≡ missing_label (file_in tables.now) target function }
 {
@@ -162,13 +152,44 @@ fn missing_label(tables: &Tables, target: Option<u32>, function: Option<u32>) ->
     }
 }
 
+fn label_or(
+    tables: &Tables,
+    function: Option<u32>,
+    argument: Argument,
+    later: Option<Break>,
+) -> Option<Break>
+    ensures { result ≡ option_or (missing_label (file_in tables.now) (label_in argument) function) later }
+{
+    match missing_label(tables, label_in(argument), function) {
+        Some(missing) => Some(missing),
+        None => later,
+    }
+}
+
+// The first label among the operands that the function doesn't have.
+fn missing_among(tables: &Tables, function: Option<u32>, given: Arguments) -> Option<Break>
+    ensures { result ≡ missing_among (file_in tables.now) function (listed given) }
+{
+    match given {
+        Arguments::Zero => None,
+        Arguments::One(a) => label_or(tables, function, a, None),
+        Arguments::Two(a, b) => {
+            let last = label_or(tables, function, b, None);
+            label_or(tables, function, a, last)
+        }
+        Arguments::Three(a, b, c) => {
+            let last = label_or(tables, function, c, None);
+            let later = label_or(tables, function, b, last);
+            label_or(tables, function, a, later)
+        }
+    }
+}
+
 fn no_label(tables: &Tables, function: Option<u32>, statement: Option<Statement>) -> Option<Break>
     ensures { result ≡ no_label (file_in tables.now) function statement }
 {
     match statement {
-        Some(Statement::Instruction(_, given)) => {
-            missing_label(tables, target_in(given), function)
-        }
+        Some(Statement::Instruction(_, given)) => missing_among(tables, function, given),
         _ => None,
     }
 }

@@ -4,6 +4,8 @@ use Rattle.p9_grammar.specs.Trees.{Trees, none, more, tree_of, trees_of}
 use Rattle.p9_grammar.specs.Scopes as scopes
 use Rattle.p9_grammar.specs.Machine as machine
 use Rattle.p9_tree_build.specs.declared.told.Told.{Told}
+use Rattle.p9_grammar.specs.declared.head.Head.{Head}
+use Rattle.p9_tree_build.specs.declared.frame.Body.{Body}
 use Rattle.p9_tree_build.specs.declared.frame.Frame.{Frame}
 use Rattle.p9_tree_build.specs.declared.frame.Read.{Read}
 
@@ -18,8 +20,12 @@ is_next_to_name (more n ns) = scopes.is_name n
 abbrev pub read_of : Read → machine.Read
 read_of r = record { tree = tree_of r.whole.node; told = told_of r.told }
 
+-- an open node that has come so far
+abbrev pub frame_at : Head → Body → machine.Frame
+frame_at h b = record { head = h; from = b.from; parts = trees_of b.row.list; told = told_of b.told }
+
 abbrev pub frame_of : Frame → machine.Frame
-frame_of f = record { head = f.head; from = f.from; parts = trees_of f.row.list; told = told_of f.told }
+frame_of f = frame_at f.head f.body
 
 abbrev pub stack_of : List Frame → machine.Stack
 stack_of [] = []

@@ -10,13 +10,20 @@ use p9_grammar::Head;
 use p9_lang::{Kind, Node};
 use std::alloc::{AllocError, Global};
 
-/// A node that is open: how far it has come, its first token, its parts and what its declarator tells.
+/// A node that is open, but for how far it has come: its first token, its parts and what its
+/// declarator tells.
 #[derive(Drop)]
-pub struct Frame {
-    pub head: Head,
+pub struct Body {
     pub from: u32,
     pub row: Row,
     pub told: Told,
+}
+
+/// A node that is open, and how far it has come.
+#[derive(Drop)]
+pub struct Frame {
+    pub head: Head,
+    pub body: Body,
 }
 
 /// A node that is read, and what it tells.
@@ -30,12 +37,12 @@ pub struct Read {
 pub fn opened(alloc: Global, head: Head, at: u32) -> Frame
     ensures { frame_of result ≡ fresh head at }
 {
-    Frame {
-        head,
+    let body = Body {
         from: at,
         row: Row::new(alloc),
         told: nothing_told(alloc),
-    }
+    };
+    Frame { head, body }
 }
 
 /// The node of one token.
@@ -51,17 +58,11 @@ pub fn single(alloc: Global, kind: Kind, at: u32) -> Result<Read, AllocError>
 }
 
 /// The node with all its parts, which ends the level of names that it opened.
-pub fn closed(
-    alloc: Global,
-    kind: Kind,
-    from: u32,
-    row: Row,
-    told: Told,
-    scope: &mut Scope,
-) -> Result<Read, AllocError>
-    ensures node { IfOk result (λ r. read_of r ≡ made kind from (trees_of row.list) (told_of told) scope.old.levels) }
+pub fn closed(alloc: Global, kind: Kind, body: Body, scope: &mut Scope) -> Result<Read, AllocError>
+    ensures node { IfOk result (λ r. read_of r ≡ made kind body.from (trees_of body.row.list) (told_of body.told) scope.old.levels) }
     ensures scope { OnOk result (scope.new.levels ≡ leave kind scope.old.levels) }
 {
+    let Body { from, row, told } = body;
     let told = told_at_end(alloc, &kind, &row, told, scope)?;
     Ok(Read {
         whole: row.whole(kind, from)?,

@@ -6,9 +6,11 @@ mod level;
 mod pile;
 mod row;
 mod scope;
+#[cfg(test)]
+mod tests;
 mod told;
 
-pub use frame::{Frame, Read, closed, opened, single, start_of};
+pub use frame::{Body, Frame, Read, closed, opened, single, start_of};
 pub use level::Level;
 pub use pile::Pile;
 pub use row::{Row, Whole};

@@ -17,5 +17,7 @@ pub use acting::act;
 pub use attaching::attached;
 pub use begins::{begin, begins_type};
 pub use joining::{Infix, join};
+pub use marks::is_close_paren;
 pub use moves::{After, Begin, Join, Joined, Move};
 pub use wants::{binds, declares, hears, wanted};
+pub use words::pushed;

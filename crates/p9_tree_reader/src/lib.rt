@@ -3,7 +3,12 @@
 #![tactic(auto)]
 
 mod names;
+mod parts;
 mod reader;
+mod settling;
+mod stepping;
 mod steps;
+#[cfg(test)]
+mod tests;
 
 pub use reader::{ReadFault, Reader};

@@ -1,7 +1,11 @@
-// The reader and its parts.
+// The reader and how it begins.
+ghost use Rattle.std.specs.Prelude.{◌≡◌, ◌∷◌, [], IfOk};
+ghost use Rattle.p9_grammar.specs.Machine.{file_start};
+ghost use Rattle.p9_tree_reader.specs.Reading.{state_of};
 
-use p9_tree_build::{Frame, Pile, Read, Scope};
-use std::alloc::AllocError;
+use p9_grammar::Head;
+use p9_tree_build::{Frame, Level, Pile, Read, Scope, opened};
+use std::alloc::{AllocError, Global};
 
 /// Why a token isn't taken.
 #[derive(Debug, Drop)]
@@ -30,4 +34,30 @@ pub struct Reader {
     pub scope: Scope,
     pub at: u32,
     pub last: Option<Read>,
+}
+
+impl Reader {
+    /// A reader of a whole file, before its first token.
+    pub fn of_file(alloc: Global) -> Result<Reader, AllocError>
+        ensures { IfOk result (λ r. state_of r ≡ file_start) }
+    {
+        let mut stack = Pile::new(alloc);
+        stack.push(opened(alloc, Head::FileItems, 0))?;
+        Ok(Reader {
+            stack,
+            scope: file_scope(alloc)?,
+            at: 0,
+            last: None,
+        })
+    }
+}
+
+fn file_scope(alloc: Global) -> Result<Scope, AllocError>
+    ensures { IfOk result (λ scope. scope.levels ≡ [] ∷ []) }
+{
+    let mut scope = Scope {
+        levels: Pile::new(alloc),
+    };
+    scope.enter(Level::new(alloc))?;
+    Ok(scope)
 }

@@ -199,3 +199,13 @@ below tags j goal depth met later list level M s none e meets a =
 
 pub unequal : (i j : ℕ) → (i ≡ j → ⊥) → nat_eq i j ≡ false
 unequal i j f = grind (arith, nat_tests)
+
+-- below a level without structures there are none
+
+bare_level : {A : Type 0} (tags : Tags) (has : Part → List A) (d : ℕ) → sought d tags has [] ≡ Nowhere
+bare_level tags has zero = refl
+bare_level tags has (suc d) = bare_level tags has d
+
+pub searched_out : {A : Type 0} (tags : Tags) (has : Part → List A) (goal : Sought A) (depth : ℕ) (met : ℕ → Bool) (level : List Standing)
+    → Searches tags has goal depth met (spread level) → level ≡ [] → goal ≡ Nowhere
+searched_out tags has goal depth met level s e = sym s.finds ∙ ap (λ l. sought depth tags has (spread l)) e ∙ bare_level tags has depth

@@ -150,6 +150,9 @@ fn find_by_levels(
     })?;
     let mut depth = tags.len();
     'levels: while depth > 0 {
+        if level.is_empty() {
+            return Ok(Sought::Nowhere);
+        }
         let found = search_level(alloc, &mut known, level.as_slice(), name, tags)?;
         match found {
             Sought::Nowhere => {}

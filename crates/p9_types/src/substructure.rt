@@ -57,6 +57,9 @@ fn find_below(alloc: Global, tags: &[Tag], outer: u32, inner: u32) -> Result<Sou
     })?;
     let mut depth = tags.len();
     'levels: while depth > 0 {
+        if level.is_empty() {
+            return Ok(Sought::Nowhere);
+        }
         level = descend(alloc, &mut known, &mut met, level.as_slice(), tags)?;
         let found = standing_at(level.as_slice(), inner);
         match found {

@@ -5,9 +5,11 @@ use Rattle.p9_types.specs.Levels.{tally, unmet, Adds}
 use Rattle.p9_types.specs.Standings.{spread, stands_in, met_by}
 use Rattle.std.specs.List.{flat_map}
 use Rattle.p9_types.specs.Sightings.{told_sought, named_places}
+use Rattle.std.proofs.lemmas.Bool.{eqb-true}
+use Rattle.p9_types.proofs.Lists.{empty_by_length}
 use Rattle.p9_types.proofs.Advancing.{first_sound}
 use Rattle.p9_types.proofs.NamedMembers.{names_uniform, there}
-use Rattle.p9_types.proofs.Loops.{searches_next, searched, searched_through, starts, length_tags, whole_ends, all_small}
+use Rattle.p9_types.proofs.Loops.{searches_next, searched, searched_through, searched_out, starts, length_tags, whole_ends, all_small}
 use Rattle.p9_types.proofs.finding.find_by_levels.Goals as goal
 
 pub levels-init : goal.levels-init
@@ -18,6 +20,12 @@ levels-init c = record {
   searches = starts (tags_of c.args.tags.now) (named_places (tags_of c.args.tags.now) c.args.name.now) (length c.args.tags.now) (length (tags_of c.args.tags.now)) c.args.tag (met_by c.new-met.result)
       c.new-level.result.items c.push.new.self.items c.new-level.ensures.items c.in_ok-push.ensures.items (sym (length_tags c.args.tags.now)) c.new-met.ensures;
 }
+
+pub returns-then-is_empty : goal.returns-then-is_empty
+returns-then-is_empty c =
+    sym (searched_out (tags_of c.args.tags.now) (named_places (tags_of c.args.tags.now) c.args.name.now)
+    (sought (length (tags_of c.args.tags.now)) (tags_of c.args.tags.now) (named_places (tags_of c.args.tags.now) c.args.name.now) (whole c.args.tag ∷ []))
+    c.levels.depth (met_by c.levels.met) c.levels.level.items c.levels.invariant.searches (empty_by_length c.levels.level.items (sym c.levels.level.ok.0 ∙ eqb-true c.levels.level.len 0 (sym c.is_empty.ensures ∙ c.if-is_empty.true))))
 
 pub returns-in-One : goal.returns-in-One
 returns-in-One c =

@@ -4,9 +4,11 @@ use Rattle.p9_lang.specs.Members.{offset_if, find_substructure}
 use Rattle.p9_types.specs.Levels.{stands_at}
 use Rattle.p9_types.specs.Standings.{spread, met_by}
 use Rattle.p9_types.specs.Sightings.{told_sought}
+use Rattle.std.proofs.lemmas.Bool.{eqb-true}
+use Rattle.p9_types.proofs.Lists.{empty_by_length}
 use Rattle.p9_types.proofs.Advancing.{first_sound}
 use Rattle.p9_types.proofs.NamedMembers.{there}
-use Rattle.p9_types.proofs.Loops.{below, searched, goes_on, starts_below, length_tags, whole_ends, all_small, unequal}
+use Rattle.p9_types.proofs.Loops.{below, searched, searched_out, goes_on, starts_below, length_tags, whole_ends, all_small, unequal}
 use Rattle.p9_types.proofs.substructure.find_below.Goals as goal
 
 pub levels-init : goal.levels-init
@@ -20,6 +22,11 @@ levels-init c =
       searches = start.0;
       none = start.1;
     }
+
+pub returns-then-is_empty : goal.returns-then-is_empty
+returns-then-is_empty c =
+    sym (searched_out (tags_of c.args.tags.now) (offset_if c.args.inner) (find_substructure (tags_of c.args.tags.now) c.args.outer c.args.inner)
+    _ (met_by c.levels.met) c.levels.level.items c.levels.invariant.searches (empty_by_length c.levels.level.items (sym c.levels.level.ok.0 ∙ eqb-true c.levels.level.len 0 (sym c.is_empty.ensures ∙ c.if-is_empty.true))))
 
 pub returns-in-One : goal.returns-in-One
 returns-in-One c =
