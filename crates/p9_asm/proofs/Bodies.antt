@@ -31,7 +31,7 @@ use Rattle.p9_asm.specs.Data.{pieces_from}
 use Rattle.p9_asm.specs.Modules.{text_at, signature_in, signature_of, text_body, defined_body, body_by, body_of}
 use Rattle.p9_asm.proofs.Options.{Each, each_append, all_each}
 use Rattle.p9_asm.proofs.Places.{found_first}
-use Rattle.p9_asm.proofs.Proper.{both}
+use Rattle.p9_facts.proofs.Noting.{both}
 use Rattle.p9_asm.proofs.Saying.{Defines, Signs, row_defines, row_signs}
 use Rattle.p9_asm.proofs.Chained.{HoldsOfRows, code_each}
 use Rattle.p9_asm.proofs.Clean.{IsSound}

@@ -24,9 +24,9 @@ use Rattle.p9_asm.specs.declared.pieces.Cell.TheVariants.{Byte, Start, Inside}
 use Rattle.p9_asm.specs.Files.{File, file_of, number_of, statement_in, statement_at}
 use Rattle.p9_asm.specs.Breaks.{size_at, width_of, is_at, is_new, was_smaller, is_broken, is_outside, is_outside_size, is_unended}
 use Rattle.p9_asm.specs.Data.{cell_of, cell_in, standing, raw_in_front, in_front, pieces_from}
-use Rattle.p9_asm.proofs.Options.{Each}
+use Rattle.p9_asm.proofs.Options.{Each, not_false}
 use Rattle.p9_asm.proofs.Places.{found_first}
-use Rattle.p9_asm.proofs.Proper.{both}
+use Rattle.p9_facts.proofs.Noting.{both}
 use Rattle.p9_asm.proofs.Saying.{Gives, row_gives}
 use Rattle.p9_asm.proofs.Clean.{or_parts, IsClean, IsSound}
 use Rattle.p9_asm.proofs.Functions.{proper_at}
@@ -78,10 +78,6 @@ stands_here rows s p g = stands rows s p p g g.first
 at_row : (o : Option ℕ) (i : ℕ) → is_at o i ≡ true → o ≡ Some i
 at_row None i h = absurd (cc)
 at_row (Some n) i h = let e : n ≡ i = grind (arith, nat_tests, h) in ap (λ (x : ℕ). Some x) e
-
-not_false : (b : Bool) → not b ≡ false → b ≡ true
-not_false true h = refl
-not_false false h = absurd (cc)
 
 abbrev AreFirst : (rows : List Row) (s : SymbolName) (i o : ℕ) → Type 0
 AreFirst rows s i o =

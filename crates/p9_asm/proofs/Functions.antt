@@ -21,7 +21,7 @@ use Rattle.p9_asm.specs.declared.breaks.Break.TheVariants.{Reserved}
 use Rattle.p9_asm.specs.Files.{File, file_of, statement_in}
 use Rattle.p9_asm.specs.Breaks.{is_past, is_broken, reserved_in, is_unended, names_nothing, may_end, no_label}
 use Rattle.p9_asm.specs.Code.{instruction_at, target_of, instruction_of, code_of}
-use Rattle.p9_asm.proofs.Options.{each_get, all_each, if_is}
+use Rattle.p9_asm.proofs.Options.{each_get, all_each, if_is, not_false}
 use Rattle.p9_asm.proofs.Places.{found_first}
 use Rattle.p9_asm.proofs.Proper.{IsProper, IsProperLine}
 use Rattle.p9_asm.proofs.Spelled.{IsProperRow}
@@ -103,10 +103,6 @@ targets_below tokens rows n frame s chained w h =
 
 abbrev Operation : Op → Arguments → Option Statement
 Operation op given = Some (statements.Instruction op given)
-
-not_false : (b : Bool) → not b ≡ false → b ≡ true
-not_false true h = refl
-not_false false h = absurd (cc)
 
 frame_fits : (file : File) (i : ℕ) (place : Place) (op : Op) (given : Arguments) → is_broken file i place (Operation op given) ≡ false → fits_frame place.frame (statements.Instruction op given) ≡ true
 frame_fits file i place op given h =

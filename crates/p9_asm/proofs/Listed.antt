@@ -10,7 +10,7 @@ use Rattle.p9_statement.specs.declared.operands.SymbolName.{SymbolName}
 use Rattle.p9_rows.specs.declared.rows.Row.{Row}
 use Rattle.p9_facts.specs.Names.{names_of, same_symbol, number_in, with_name, with_names, symbols_of}
 use Rattle.p9_facts.proofs.Listing.{number_last}
-use Rattle.p9_asm.proofs.Options.{Each, each_append, all_each}
+use Rattle.p9_asm.proofs.Options.{Each, each_append, all_each, each_weaker}
 use Rattle.p9_asm.proofs.Places.{found_first}
 
 pub each_parts : {X : Type 0} (P : X → Type 0) (xs ys : List X) → Each P (xs ++ ys) → Each P xs × Each P ys
@@ -125,10 +125,6 @@ nowhere p i (x ∷ xs) h =
 
 other_symbol : (s x : SymbolName) → same_symbol s x ≡ false → x ≢ s
 other_symbol s x h = λ e. let g : same_symbol s s ≡ false = subst (λ y. same_symbol s y ≡ false) e h in let t = symbol_refl s in cc
-
-each_weaker : {X : Type 0} (P Q : X → Type 0) (xs : List X) → ((x : X) → P x → Q x) → Each P xs → Each Q xs
-each_weaker P Q [] f h = tt
-each_weaker P Q (x ∷ xs) f h = (f x h.0, each_weaker P Q xs f h.1)
 
 none_of : (o : Option ℕ) → is_some o ≡ false → o ≡ None
 none_of None h = refl

@@ -10,7 +10,7 @@ use Rattle.p9_lex.specs.Classes.{is_digit, is_upper, is_lower, is_name_start, is
 use Rattle.p9_lex.specs.Spelling.{AllOf, IsName, Spells}
 use Rattle.p9_lex.specs.Made.{is_line_end, IfEnd, AreTokens}
 use Rattle.p9_asm.proofs.Options.{Each, all_each}
-use Rattle.p9_asm.proofs.Proper.{both}
+use Rattle.p9_facts.proofs.Noting.{both}
 use Rattle.p9_asm.proofs.Spelled.{HasNames}
 
 within_range : (a b c : ℕ) → (leb a b && leb b c) ≡ true → (a ≤ b) × (b ≤ c)

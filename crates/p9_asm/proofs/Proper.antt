@@ -28,6 +28,7 @@ use Rattle.p9_statement.specs.Lexemes.{is_signature}
 use Rattle.p9_statement.specs.Operands.{is_open, only_number, negated, constant_of, offset_of, symbol_of, behind_symbol, if_nothing, only_symbol, base_of, displacement, argument_offset, argument_memory, below_entry, frame_offset, memory_by, memory_at, memory_of, if_static, place_at, place_of, address_of, constant_or_address, special_of, plain_argument, label_argument, call_argument, last_argument}
 use Rattle.p9_statement.specs.Statements.{is_comma, is_slash, more_arguments, parted_arguments, arguments_of, is_calculation, completed_by, completed, is_form, formed, instruction_of, dollar_number, text_statement, globl_statement, type_statement, sized, address_value, constant_or_address_value, datum_of, data_statement, parted_data, directive_of, parted_directive, headed, statement_of, labelled, line_of}
 use Rattle.p9_rows.specs.Rows.{place_in}
+use Rattle.p9_facts.proofs.Noting.{both}
 use Rattle.p9_asm.specs.Modules.{text_at}
 use Rattle.p9_asm.proofs.Options.{Each, each_take, each_drop, if_then, if_map, if_test, if_any}
 
@@ -243,10 +244,6 @@ instruction_proper tokens op xs h =
     (λ given k. formed_proper tokens op (completed op given) (completed_proper tokens (is_calculation op) given k))
 
 -- Directives
-
-pub both : (a b : Bool) → (a && b) ≡ true → (a ≡ true) × (b ≡ true)
-both true b h = (refl, h)
-both false b h = absurd (cc)
 
 text_proper : (tokens : List Token) (s : SymbolName) (frame : ℕ) → IsSymbolName tokens s → IfSome (text_statement s frame) (IsProper tokens)
 text_proper tokens s frame h =

@@ -22,7 +22,8 @@ use Rattle.p9_asm.specs.Files.{File}
 use Rattle.p9_asm.specs.Breaks.{label_in, missing_label, missing_among}
 use Rattle.p9_asm.specs.Code.{target_of, operand_of, instruction_of}
 use Rattle.p9_asm.proofs.Options.{Each, all_each}
-use Rattle.p9_asm.proofs.Proper.{both, IsArgument, AreArguments}
+use Rattle.p9_facts.proofs.Noting.{both}
+use Rattle.p9_asm.proofs.Proper.{IsArgument, AreArguments}
 use Rattle.p9_asm.proofs.Clean.{none_parts}
 use Rattle.p9_asm.proofs.Formed.{forms_same}
 

@@ -22,7 +22,8 @@ use Rattle.p9_rows.specs.Rows.{spells, is_word, first_by, lexeme_by, place_in, l
 use Rattle.p9_asm.specs.Modules.{text_by, text_in, text_at}
 use Rattle.p9_asm.proofs.Options.{Each, if_or}
 use Rattle.p9_asm.proofs.Places.{found_first, somewhere}
-use Rattle.p9_asm.proofs.Proper.{both, IsNamed, IsSense, IsLexeme, IsProperLine, line_proper}
+use Rattle.p9_facts.proofs.Noting.{both}
+use Rattle.p9_asm.proofs.Proper.{IsNamed, IsSense, IsLexeme, IsProperLine, line_proper}
 
 -- the names among the tokens are proper
 abbrev pub HasNames : List Token → Type 0

@@ -26,7 +26,7 @@ use Rattle.p9_asm.specs.Files.{file_of}
 use Rattle.p9_asm.specs.Breaks.{is_undefined}
 use Rattle.p9_asm.specs.Modules.{name_by, name_in, name_at, symbol_of, module_of}
 use Rattle.p9_asm.specs.Assembled.{first_break, judged, assembled_tokens}
-use Rattle.p9_asm.proofs.Options.{Each, each_get, each_append, all_each}
+use Rattle.p9_asm.proofs.Options.{Each, each_get, each_append, all_each, each_weaker}
 use Rattle.p9_asm.proofs.Proper.{IsNamed, IsSymbolName, IsArgument, AreArguments, IsDatum, IsProper, IsProperLine}
 use Rattle.p9_asm.proofs.Spelled.{HasNames, IsProperRow}
 use Rattle.p9_asm.proofs.Saying.{same_symbol}
@@ -123,10 +123,6 @@ ruled tokens rows s sound known =
 each_map : {X Y : Type 0} (f : X → Y) (P : X → Type 0) (Q : Y → Type 0) (xs : List X) → ((x : X) → P x → Q (f x)) → Each P xs → Each Q (map f xs)
 each_map f P Q [] g h = tt
 each_map f P Q (x ∷ xs) g h = (g x h.0, each_map f P Q xs g h.1)
-
-each_weaker : {X : Type 0} (P Q : X → Type 0) (xs : List X) → ((x : X) → P x → Q x) → Each P xs → Each Q xs
-each_weaker P Q [] g h = tt
-each_weaker P Q (x ∷ xs) g h = (g x h.0, each_weaker P Q xs g h.1)
 
 length_map : {X Y : Type 0} (f : X → Y) (xs : List X) → length (map f xs) ≡ length xs
 length_map f [] = refl

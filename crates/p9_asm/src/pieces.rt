@@ -75,19 +75,13 @@ fn cell_in(place: u64, statement: Option<Statement>) -> Option<Cell>
     }
 }
 
-fn statement_by(tables: &Tables, row: Option<u32>) -> Option<Statement>
-    ensures { result ≡ option_and_then (statement_at (file_in tables.now)) row }
-{
-    tables.statement_at(row?)
-}
-
 // What stands at a place of the symbol: zero, where no line says.
 #[tactic(auto, unfolding(crate::specs::Data::standing))]
 fn standing(tables: &Tables, symbol: SymbolName, place: u64) -> Cell
     ensures { result ≡ standing (file_in tables.now) symbol place }
 {
     let row = tables.facts.first(Fact::byte_of(symbol, place));
-    cell_in(place, statement_by(tables, row)).unwrap_or(Cell::Byte(0))
+    cell_in(place, tables.statement_by(row)).unwrap_or(Cell::Byte(0))
 }
 
 // Adds the bytes, if there are any.

@@ -59,12 +59,6 @@ fn signature_in(
     }
 }
 
-fn statement_by(tables: &Tables, row: Option<u32>) -> Option<Statement>
-    ensures { result ≡ option_and_then (statement_at (file_in tables.now)) row }
-{
-    tables.statement_at(row?)
-}
-
 fn signature_of(
     alloc: Global,
     tokens: &[Token],
@@ -74,7 +68,7 @@ fn signature_of(
     ensures { IfOk result (λ text. text ≡ signature_of tokens.now (file_in tables.now) symbol) }
 {
     let row = tables.facts.first(Fact::signature(symbol));
-    signature_in(alloc, tokens, statement_by(tables, row))
+    signature_in(alloc, tokens, tables.statement_by(row))
 }
 
 fn data_body(

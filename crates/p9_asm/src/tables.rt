@@ -1,5 +1,5 @@
 // What is known of a file once it is read.
-ghost use Rattle.std.specs.Prelude.{◌≡◌, ◌≤◌, ◌<◌, ◌^◌, length, IfOk};
+ghost use Rattle.std.specs.Prelude.{◌≡◌, ◌≤◌, ◌<◌, ◌^◌, length, IfOk, option_and_then};
 ghost use Rattle.p9_rows.specs.Rows.{rows_of, lexemes_of};
 ghost use Rattle.p9_facts.specs.Names.{symbols_of};
 ghost use Rattle.p9_asm.specs.Files.{file_of, file_in, number_of, statement_in, statement_at};
@@ -62,5 +62,12 @@ impl Tables {
     {
         let row = self.rows.get(index as usize)?;
         statement_in(row.content)
+    }
+
+    /// The statement of a line, if there is one.
+    pub(crate) fn statement_by(&self, row: Option<u32>) -> Option<Statement>
+        ensures { result ≡ option_and_then (statement_at (file_in self.now)) row }
+    {
+        self.statement_at(row?)
     }
 }

@@ -5,7 +5,7 @@ use Rattle.std.specs.Option.{option_or}
 use Rattle.std.specs.List.{position_from}
 use Rattle.std.proofs.lemmas.Bool.Decides.{nat_tests}
 use Rattle.p9_statement.specs.declared.operands.SymbolName.{SymbolName}
-use Rattle.p9_facts.proofs.Noting.{both, beq_is}
+use Rattle.p9_facts.proofs.Noting.{or_none, both, beq_is}
 use Rattle.p9_facts.specs.Names.{same_symbol, number_in, with_name, with_names}
 
 pub with_append : (known xs ys : List SymbolName) → with_names known (xs ++ ys) ≡ with_names (with_names known xs) ys
@@ -47,10 +47,6 @@ pub same_symbol_is : (a b : SymbolName) → same_symbol a b ≡ true → a ≡ b
 same_symbol_is a b h =
     let parts = both (a.word == b.word) (beq a.local b.local) h in
     symbol_of_parts a.word b.word a.local b.local (grind (arith, nat_tests, parts.0)) (beq_is a.local b.local parts.1)
-
-or_none : (o : Option ℕ) → option_or o None ≡ o
-or_none None = refl
-or_none (Some n) = refl
 
 step_by : (b : Bool) (known : SymbolName → Option ℕ) (s q : SymbolName) (n : ℕ) (now : Option ℕ) → (b ≡ true → s ≡ q) → known s ≡ None → now ≡ cond b (Some n) (known q) → now ≡ option_or (known q) (cond b (Some n) None)
 step_by true known s q n now same none h =

@@ -59,7 +59,7 @@ tests_same _ _ = refl
 pub tests_are : eq-value.it ≡ same_fact
 tests_are = fun_ext (λ a. fun_ext (tests_same a))
 
-or_none : (o : Option ℕ) → option_or o None ≡ o
+pub or_none : (o : Option ℕ) → option_or o None ≡ o
 or_none None = refl
 or_none (Some n) = refl
 

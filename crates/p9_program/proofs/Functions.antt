@@ -32,7 +32,7 @@ equal a b h = grind (arith, nat_tests)
 equal-self : (a : ℕ) → (a == a) ≡ true
 equal-self a = grind (arith, nat_tests)
 
-function-is : (f g : FunctionName) → same_function f g ≡ true → f ≡ g
+pub function-is : (f g : FunctionName) → same_function f g ≡ true → f ≡ g
 function-is (Global x) (Global y) h = ap Global (same-is x y h)
 function-is (Global x) (Local o y) h = absurd (true≢false (sym h))
 function-is (Local o x) (Global y) h = absurd (true≢false (sym h))
@@ -61,7 +61,7 @@ code-text size item (Common n) h = absurd h
 
 -- FLATTENED LISTS
 
-flat-back : {A B : Type 0} (f : A → List B) (xs : List A) (i : ℕ) (y : B) → slice_get (flat_map f xs) i ≡ Some y → (t : ℕ) × (x : A) × (slice_get xs t ≡ Some x) × ((j : ℕ) × (slice_get (f x) j ≡ Some y))
+pub flat-back : {A B : Type 0} (f : A → List B) (xs : List A) (i : ℕ) (y : B) → slice_get (flat_map f xs) i ≡ Some y → (t : ℕ) × (x : A) × (slice_get xs t ≡ Some x) × ((j : ℕ) × (slice_get (f x) j ≡ Some y))
 flat-back f [] i y e = absurd (none-some y e)
 flat-back f (x ∷ xs) i y e = by (get-either (f x) (flat_map f xs) i y e) (λ u g. flat-back f xs u y g)
   where
@@ -84,13 +84,14 @@ pub record IsFunctionOf (e : Entry) (fe : FunctionEntry) : Type 0 where
   pub definition : Definition
   pub defined : definition_of item ≡ Some definition
   pub function : fe.function ≡ name_of e
+  pub same : fe.definition ≡ definition
 
-in-entry : (e : Entry) (j : ℕ) (fe : FunctionEntry) → slice_get (functions_in e) j ≡ Some fe → IsFunctionOf e fe
+pub in-entry : (e : Entry) (j : ℕ) (fe : FunctionEntry) → slice_get (functions_in e) j ≡ Some fe → IsFunctionOf e fe
 in-entry e j fe h = by e.symbol.kind refl h
   where
     with_definition : (item : Typed) → e.symbol.kind ≡ symbols.Code item → (d : Option Definition) → definition_of item ≡ d → (j : ℕ) → slice_get (function_entry e item d) j ≡ Some fe → IsFunctionOf e fe
     with_definition item k None z j h = absurd (none-some fe h)
-    with_definition item k (Some d) z zero h = record { item = item; kind = k; definition = d; defined = z; function = ap (λ i. i.function) (sym (some-same _ fe h)) }
+    with_definition item k (Some d) z zero h = record { item = item; kind = k; definition = d; defined = z; function = ap (λ i. i.function) (sym (some-same _ fe h)); same = ap (λ i. i.definition) (sym (some-same _ fe h)) }
     with_definition item k (Some d) z (suc j) h = absurd (none-some fe h)
 
     by : (k : SymbolKind) → e.symbol.kind ≡ k → slice_get (functions_in (record e { symbol = record e.symbol { kind = k } })) j ≡ Some fe → IsFunctionOf e fe
@@ -106,7 +107,7 @@ entry-in e item k (Some d) z h =
     let fe : FunctionEntry = record { function = name_of e; owner = e.owner; tags = e.tags; definition = d; need = need_of e.tags item d } in
     (fe, ap (λ q. slice_get (functions_in (record e { symbol = record e.symbol { kind = q } })) 0) k ∙ ap (λ q. slice_get (function_entry e item q) 0) z, refl)
 
-found-back : (f : FunctionName) (fs : List FunctionEntry) (fe : FunctionEntry) → found_function f fs ≡ Some fe → (i : ℕ) × (slice_get fs i ≡ Some fe) × (f ≡ fe.function)
+pub found-back : (f : FunctionName) (fs : List FunctionEntry) (fe : FunctionEntry) → found_function f fs ≡ Some fe → (i : ℕ) × (slice_get fs i ≡ Some fe) × (f ≡ fe.function)
 found-back f [] fe e = absurd (none-some fe e)
 found-back f (q ∷ fs) fe e = by (is_function f q) refl e (λ g. found-back f fs fe g)
   where

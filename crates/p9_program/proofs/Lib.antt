@@ -14,3 +14,4 @@ pub mod Words
 pub mod Beginning
 pub mod Whole
 pub mod Files
+pub mod Example

@@ -1,4 +1,5 @@
 // What holds of programs of translated modules, as contracts of functions that do nothing.
+ghost use Rattle.p9_program.specs.Example.{SmallProgram};
 ghost use Rattle.p9_program.specs.Linking.{CodesAreRight};
 ghost use Rattle.p9_program.specs.Whole.{FilesAreTranslated, ProgramsBegin, ProgramsAreRight, BudgetIsEnough};
 
@@ -23,4 +24,9 @@ pub fn programs_begin()
 pub fn programs_are_right()
     ensures right { ProgramsAreRight }
     ensures budget { BudgetIsEnough }
+{}
+
+/// The small program `void main(void) { }` has an object, made by hand, that translates it.
+pub fn small_program()
+    ensures { SmallProgram }
 {}

@@ -4,4 +4,6 @@
 
 mod laws;
 
-pub use laws::{codes_are_right, files_are_translated, programs_are_right, programs_begin};
+pub use laws::{
+    codes_are_right, files_are_translated, programs_are_right, programs_begin, small_program,
+};

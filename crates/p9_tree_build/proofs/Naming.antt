@@ -3,7 +3,7 @@ use Rattle.std.proofs.Common.{◌≡◌, ℕ, ◌<◌, ◌≤◌, Bool, true, fa
 use Rattle.p9_lang.specs.declared.tree.Kind.{Kind}
 use Rattle.p9_lang.specs.declared.tree.Kind.TheVariants as kind
 use Rattle.p9_lang.specs.declared.tree.Node.{Node, out-Node}
-use Rattle.p9_grammar.specs.Trees.{Tree, node, Trees, none, more, tree_of, trees_of}
+use Rattle.p9_grammar.specs.Trees.{node, Trees, none, more, tree_of, trees_of}
 use Rattle.p9_grammar.specs.Scopes.{is_name, Told, Level, listing, tells}
 use Rattle.p9_tree_build.specs.Machines.{is_next_to_name, through_star}
 use Rattle.p9_grammar.proofs.Nodes.{tree_of-out}

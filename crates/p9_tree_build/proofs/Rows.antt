@@ -1,5 +1,5 @@
 -- Nodes with their height and number.
-use Rattle.std.proofs.Common.{◌≡◌, ℕ, zero, suc, ◌+◌, max, List, [], ◌∷◌, ◌++◌, refl, sym, ap, ◌∙◌, arith}
+use Rattle.std.proofs.Common.{◌≡◌, ℕ, suc, ◌+◌, max, List, [], ◌∷◌, ◌++◌, ap, ◌∙◌, arith}
 use Rattle.p9_lang.specs.declared.tree.Kind.{Kind}
 use Rattle.p9_lang.specs.declared.tree.Node.{Node, roll-Node}
 use Rattle.p9_grammar.specs.Trees.{Tree, node, Trees, none, more, push, tree_of, trees_of, height, height_in, nodes, nodes_in}

@@ -1,5 +1,5 @@
 -- How parts begin whose first token tells.
-use Rattle.std.proofs.Common.{◌≡◌, ℕ, Bool, true, false, [], Option, Some, None, refl, ap}
+use Rattle.std.proofs.Common.{◌≡◌, ℕ, true, false, [], Some, None, refl, ap}
 use Rattle.p9_grammar.specs.declared.terminal.Punctuator.{Punctuator}
 use Rattle.p9_grammar.specs.declared.terminal.Punctuator.TheVariants as mark
 use Rattle.p9_grammar.specs.declared.terminal.Keyword.TheVariants as key
@@ -8,7 +8,7 @@ use Rattle.p9_grammar.specs.declared.terminal.Terminal.TheVariants as t
 use Rattle.p9_grammar.specs.declared.head.Head.{Head}
 use Rattle.p9_grammar.specs.declared.head.Head.TheVariants as head
 use Rattle.p9_grammar.specs.Scopes.{Scope}
-use Rattle.p9_grammar.specs.Machine.{Begin, Pushes, begin_expression, begin_switch_item, begin_statement, begin_initialiser}
+use Rattle.p9_grammar.specs.Machine.{Pushes, begin_expression, begin_switch_item, begin_statement, begin_initialiser}
 use Rattle.p9_tree_moves.specs.Marks.{is_open_brace, label_of}
 
 pub mark_begins : (scope : Scope) (l : ℕ) (p : Punctuator) → begin_expression scope l (t.Mark p) ≡ begin_expression [] l (t.Mark p)

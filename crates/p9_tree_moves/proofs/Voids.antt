@@ -1,16 +1,16 @@
 -- A parameter that is the word `void` alone.
-use Rattle.std.proofs.Common.{◌≡◌, ℕ, zero, suc, ◌<◌, ◌≤◌, Bool, true, false, List, [], ◌∷◌, length, refl, sym, ap, ◌∙◌, arith}
+use Rattle.std.proofs.Common.{◌≡◌, ℕ, ◌<◌, ◌≤◌, false, List, [], ◌∷◌, length, refl, sym, ap, ◌∙◌, arith}
 use Rattle.p9_lang.specs.declared.tree.Kind.{Kind}
 use Rattle.p9_lang.specs.declared.tree.Kind.TheVariants as kind
 use Rattle.p9_lang.specs.declared.tree.Node.{Node, out-Node}
 use Rattle.p9_lang.specs.declared.tree.Spec.{Spec}
 use Rattle.p9_lang.specs.declared.tree.SpecWord.{SpecWord}
 use Rattle.p9_lang.specs.declared.tree.SpecWord.TheVariants as word
-use Rattle.p9_grammar.specs.Trees.{Tree, node, Trees, none, more, tree_of, trees_of}
+use Rattle.p9_grammar.specs.Trees.{node, Trees, none, more, tree_of, trees_of}
 use Rattle.p9_grammar.specs.Grammar.{is_void_word}
 use Rattle.p9_grammar.specs.Machine.{only_void}
 use Rattle.p9_grammar.proofs.Nodes.{tree_of-out}
-use Rattle.p9_tree_moves.specs.Marks.{is_void, is_lone_void}
+use Rattle.p9_tree_moves.specs.Marks.{is_lone_void}
 
 lone : (words : List SpecWord) → is_void_word words 0 ≡ is_lone_void words
 lone [] = refl

@@ -1,5 +1,5 @@
 -- What a move is where a token is the one that is wanted, and where it is another.
-use Rattle.std.proofs.Common.{◌≡◌, Bool, true, false, refl}
+use Rattle.std.proofs.Common.{◌≡◌, true, false, refl}
 use Rattle.p9_grammar.specs.declared.terminal.Punctuator.TheVariants as mark
 use Rattle.p9_grammar.specs.declared.terminal.Terminal.{Terminal}
 use Rattle.p9_grammar.specs.declared.terminal.Terminal.TheVariants as t

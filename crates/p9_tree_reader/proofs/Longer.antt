@@ -1,9 +1,9 @@
 -- A text with one more piece.
-use Rattle.std.proofs.Common.{◌≡◌, ℕ, Bool, true, false, List, [], ◌∷◌, ◌++◌, refl, sym, ap, ◌∙◌}
+use Rattle.std.proofs.Common.{◌≡◌, ℕ, true, List, refl, sym, ap, ◌∙◌}
 use Rattle.p9_lang.specs.declared.tree.Kind.{Kind}
 use Rattle.p9_lang.specs.declared.tree.Kind.TheVariants as kind
 use Rattle.p9_lang.specs.declared.tree.Node.{Node, out-Node}
-use Rattle.p9_grammar.specs.Trees.{Tree, node, Trees, none, tree_of, trees_of}
+use Rattle.p9_grammar.specs.Trees.{node, Trees, none, tree_of, trees_of}
 use Rattle.p9_grammar.proofs.Nodes.{tree_of-out}
 use Rattle.p9_tree_moves.specs.Moves.{is_text}
 use Rattle.p9_tree_reader.specs.Reading.{longer, longer_kind, is_text_kind}

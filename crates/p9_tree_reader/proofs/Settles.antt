@@ -1,10 +1,8 @@
 -- What comes of a node that is read.
-use Rattle.std.proofs.Common.{◌≡◌, ℕ, Bool, true, false, List, [], ◌∷◌, Option, Some, None, refl, sym, ap, ◌∙◌}
-use Rattle.std.specs.Prelude.{if◌then◌else◌}
-use Rattle.p9_lang.specs.declared.tree.Kind.{Kind}
+use Rattle.std.proofs.Common.{◌≡◌, ℕ, true, List, ◌∷◌, Option, Some, refl}
 use Rattle.p9_lang.specs.declared.tree.Kind.TheVariants as kind
 use Rattle.p9_grammar.specs.declared.terminal.Terminal.{Terminal}
-use Rattle.p9_grammar.specs.Trees.{Tree, node, Trees, none, push}
+use Rattle.p9_grammar.specs.Trees.{Tree, node, push}
 use Rattle.p9_grammar.specs.Scopes.{Scope, Told, nothing}
 use Rattle.p9_grammar.specs.Machine as machine
 use Rattle.p9_tree_moves.specs.Moves.{is_text}

@@ -18,3 +18,4 @@ mod Unnamed
 mod NamedMembers
 mod Loops
 mod Comparing
+mod WrittenMembers

@@ -5,6 +5,7 @@ pub mod Tasks
 pub mod Levels
 pub mod Sightings
 pub mod Standings
+pub mod FoundMembers
 pub mod Sizes
 pub mod Heads
 pub mod Pairs

@@ -9,6 +9,7 @@ ghost use Rattle.p9_types.specs.Told.{IsSound};
 ghost use Rattle.p9_types.specs.Sizes.{SizesAreWithin, ends_within, begin_within};
 ghost use Rattle.p9_types.specs.Levels.{tally};
 ghost use Rattle.p9_types.specs.Standings.{placing_of, all_placed, part_of, copies_of, spread};
+ghost use Rattle.p9_types.specs.FoundMembers.{TellsMember};
 ghost use Rattle.p9_types.specs.Sightings.{told_sought, named_among, named_places, has_body, without_type};
 
 use crate::descending::descend;
@@ -169,8 +170,9 @@ fn find_by_levels(
 pub fn find_member(alloc: Global, tags: &Tags, tag: u32, name: &Ident) -> Result<Found, NoMemory>
     requires ends { NoneContainsItself (tags_of tags.now.list) }
     requires sizes { SizesAreWithin (tags_of tags.now.list) }
-    ensures { IfOk result (λ found.
+    ensures found { IfOk result (λ found.
         found ≡ without_type (find_member (tags_of tags.now.list) tag name.now)) }
+    ensures member { IfOk result (TellsMember (tags_of tags.now.list) tag name.now) }
 {
     let list = tags.list.as_slice();
     if !has_body(list, tag) {

@@ -1,4 +1,4 @@
-use Rattle.std.proofs.Common.{◌≡◌, ap, ◌∙◌}
+use Rattle.std.proofs.Common.{ap, ◌∙◌}
 use Rattle.p9_tree_build.specs.Names.{held}
 use Rattle.p9_tree_build.proofs.Held.{held-insert}
 use Rattle.p9_tree_build.proofs.level.note.Goals as goal

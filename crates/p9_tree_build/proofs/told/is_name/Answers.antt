@@ -1,4 +1,4 @@
-use Rattle.std.proofs.Common.{◌≡◌, sym, ◌∙◌}
+use Rattle.std.proofs.Common.{sym, ◌∙◌}
 use Rattle.p9_tree_build.proofs.Naming.{name_found, name_inside, name_absent, name_other}
 use Rattle.p9_tree_build.proofs.told.is_name.Goals as goal
 

@@ -1,4 +1,4 @@
-use Rattle.std.proofs.Common.{◌≡◌, ◌≤◌, length, sym, ap, ◌∙◌}
+use Rattle.std.proofs.Common.{sym, ap, ◌∙◌}
 use Rattle.p9_grammar.specs.Trees.{trees_of}
 use Rattle.p9_tree_build.specs.Machines.{told_of, through_star}
 use Rattle.p9_tree_build.proofs.Naming.{through_more}

@@ -1,4 +1,4 @@
-use Rattle.std.proofs.Common.{◌≡◌, sym, ◌∙◌}
+use Rattle.std.proofs.Common.{sym}
 use Rattle.p9_tree_moves.proofs.Voids.{void_alone, void_declared, void_other}
 use Rattle.p9_tree_moves.proofs.attaching.only_void.Goals as goal
 
