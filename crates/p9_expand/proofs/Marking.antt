@@ -29,6 +29,7 @@ targets_marked starts rs lines none entered firsts again named flags new n same 
   where
     long : length entered ≡ length lines
     long = ap length (same ∙ n) ∙ grind (arith, common_steps)
+
     each : (i : ℕ) → i < 0 + length lines → get_or flags i false ≡ is_first starts 0 rs i || is_named lines i
     each i below =
         let within : i < length entered = omega (arith, below, long) in
