@@ -1,9 +1,8 @@
 -- What holds of the lines of a program.
-use Rattle.std.proofs.Common.{ℕ, ◌+◌, ◌≡◌, ◌≤◌, ◌<◌, ◌||◌, Some, Result, Ok, Err, IfOk, List, [], ◌∷◌, ◌++◌, length, length-append, map, refl, sym, ap, ◌∙◌, subst, All, arith}
-use Rattle.std.specs.Prelude.{slice_get, Option}
+use Rattle.std.proofs.Common.{ℕ, ◌+◌, ◌≡◌, ◌≤◌, ◌<◌, ◌||◌, Some, Result, Ok, Err, IfOk, List, ◌++◌, length, length-append, map, refl, sym, ap, ◌∙◌, subst, All, arith}
+use Rattle.std.specs.Prelude.{Option}
 use Rattle.std.proofs.lemmas.List.{length-map}
 use Rattle.p9_abs.specs.declared.modules.AModule.{AModule}
-use Rattle.p9_abs.specs.declared.modules.Def.{Def}
 use Rattle.p9_abs.specs.BuiltIn.{linked}
 use Rattle.p9_abs.specs.Runs.{Routine}
 use Rattle.p9_abs.specs.Programs.{routines_of, definition_of}
@@ -20,7 +19,7 @@ use Rattle.p9_pieces.specs.Callees.{callee_in}
 use Rattle.p9_pieces.specs.Pieces.{pieces_from, joined}
 use Rattle.p9_pieces.proofs.Within.{program_within}
 use Rattle.p9_expand.specs.Base.{argument_list, base_offset}
-use Rattle.p9_expand.specs.Program.{aimed, is_first, marked, starts_of, lines_of, program_lines}
+use Rattle.p9_expand.specs.Program.{aimed, is_first, starts_of, lines_of, program_lines}
 use Rattle.p9_expand.specs.Laws.{IsMarked}
 use Rattle.p9_expand.proofs.Valid.{IsSound, all_sound}
 use Rattle.p9_expand.proofs.Filling.{pieces_full, starts_below}

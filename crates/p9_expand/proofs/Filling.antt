@@ -1,5 +1,5 @@
 -- Behind each piece of valid functions a line comes, so each number of a piece is that of a line.
-use Rattle.std.proofs.Common.{ℕ, zero, suc, ◌+◌, ◌≡◌, ◌≤◌, ◌<◌, get_or, Option, Some, None, IsSome, List, [], ◌∷◌, ◌++◌, length, length-append, refl, sym, ap, ◌∙◌, subst, All, arith}
+use Rattle.std.proofs.Common.{ℕ, zero, suc, ◌+◌, ◌≡◌, ◌<◌, get_or, Option, Some, None, IsSome, List, [], ◌∷◌, ◌++◌, length, length-append, ap, ◌∙◌, All, arith}
 use Rattle.std.proofs.lemmas.List.Elements.{All-head, All-tail, All-weaker}
 use Rattle.p9_abs.specs.declared.instructions.Abs.{Abs}
 use Rattle.p9_abs.specs.declared.forms.Form.{Form}

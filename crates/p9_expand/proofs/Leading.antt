@@ -24,7 +24,7 @@ use Rattle.p9_lines.specs.FormLines.{lines_of, entry_lines}
 use Rattle.p9_lines.specs.Laws.{is_branch, LeadsOn, Lead}
 use Rattle.p9_lines.proofs.Leading.{leads_all, entry_leads}
 use Rattle.p9_pieces.specs.Ways.{Scope, scope_of, words_from, label_goal, goal_of, way_of}
-use Rattle.p9_pieces.specs.Pieces.{Piece, form_lines, code_pieces, function_pieces, pieces_from, joined}
+use Rattle.p9_pieces.specs.Pieces.{form_lines, code_pieces, function_pieces, pieces_from, joined}
 use Rattle.p9_pieces.proofs.Stepping.{joined-append}
 use Rattle.p9_expand.proofs.Valid.{IsSound}
 

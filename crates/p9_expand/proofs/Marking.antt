@@ -1,5 +1,5 @@
 -- Lines that are marked by flags.
-use Rattle.std.proofs.Common.{ℕ, ◌+◌, ◌≡◌, ◌≤◌, ◌<◌, ◌||◌, Bool, false, get_or, replicate, List, [], ◌∷◌, length, refl, sym, ap, ◌∙◌, arith, Result, Ok, Err, IfOk}
+use Rattle.std.proofs.Common.{ℕ, ◌+◌, ◌≡◌, ◌<◌, ◌||◌, Bool, false, get_or, replicate, List, [], ◌∷◌, length, refl, ap, ◌∙◌, arith, Result, Ok, Err, IfOk}
 use Rattle.std.proofs.lemmas.Grind.{common_steps}
 use Rattle.p9_abs.specs.Runs.{Routine}
 use Rattle.p9_r3k.specs.declared.lines.Line.{Line}

@@ -31,7 +31,8 @@ use std::alloc::Global;
 fn base_offset(modules: &Vec<AModule>, places: &Places) -> u32
     requires count { length modules.now.items < 2 ^ 32 }
     requires inits { places.now.inits.items ≡ spots 0 (inits_of (linked modules.now.items)) }
-    requires bss { places.now.bss.items ≡ spots (init_size (linked modules.now.items)) (bss_of (linked modules.now.items)) }
+    requires bss { places.now.bss.items ≡ spots places.now.data_size (bss_of (linked modules.now.items)) }
+    requires data_size { places.now.data_size ≡ init_size (linked modules.now.items) }
     ensures { result ≡ base_offset modules.now.items }
 {
     let def = Def {
@@ -73,7 +74,8 @@ fn expanded<'a>(
     requires table { IsTable (linked modules.now.items) table.now.defs.entries }
     requires chosen { ChoosesAll (linked modules.now.items) table.now.defs.entries }
     requires inits { places.now.inits.items ≡ spots 0 (inits_of (linked modules.now.items)) }
-    requires bss { places.now.bss.items ≡ spots (init_size (linked modules.now.items)) (bss_of (linked modules.now.items)) }
+    requires bss { places.now.bss.items ≡ spots places.now.data_size (bss_of (linked modules.now.items)) }
+    requires data_size { places.now.data_size ≡ init_size (linked modules.now.items) }
     ensures lines { IfOk result (λ lines. lines ≡ program_lines modules.now.items) }
     ensures fits { IfOk result (λ lines. text_weight (routines_of modules.now.items) ≤ text_limit) }
     ensures refused { IfErr result (IsTooLarge (text_weight (routines_of modules.now.items))) }
@@ -104,7 +106,8 @@ pub fn expand(
     requires table { IsTable (linked modules.now.items) table.now.defs.entries }
     requires chosen { ChoosesAll (linked modules.now.items) table.now.defs.entries }
     requires inits { places.now.inits.items ≡ spots 0 (inits_of (linked modules.now.items)) }
-    requires bss { places.now.bss.items ≡ spots (init_size (linked modules.now.items)) (bss_of (linked modules.now.items)) }
+    requires bss { places.now.bss.items ≡ spots places.now.data_size (bss_of (linked modules.now.items)) }
+    requires data_size { places.now.data_size ≡ init_size (linked modules.now.items) }
     ensures lines { IfOk result (λ lines. lines ≡ program_lines modules.now.items) }
 
     // What the schedule asks: each branch and jump has a target, and targets are lines.
