@@ -1,14 +1,13 @@
 -- Functions by a table of names and numbers are those of the modules.
-use Rattle.std.proofs.Common.{ℕ, ◌≡◌, Bool, true, false, Option, Some, None, List, [], ◌∷◌, ◌++◌, cond, refl, sym, ap, ◌∙◌, subst}
+use Rattle.std.proofs.Common.{ℕ, ◌≡◌, Option, Some, None, List, cond, refl, ap, ◌∙◌}
 use Rattle.std.specs.Prelude.{option_and_then}
 use mathlib.Core.Path.{fun_ext}
 use Rattle.p9_abs.specs.declared.modules.AModule.{AModule}
 use Rattle.p9_abs.specs.declared.modules.Def.{Def}
 use Rattle.p9_abs.specs.declared.modules.Symbol.{Symbol}
 use Rattle.p9_abs.specs.Names.{symbol_at}
-use Rattle.p9_abs.specs.BuiltIn.{builtin_module, linked}
-use Rattle.p9_abs.specs.Runs.{Routine}
-use Rattle.p9_abs.specs.Programs.{chosen, stands_for, definition_of, routines_of}
+use Rattle.p9_abs.specs.BuiltIn.{linked}
+use Rattle.p9_abs.specs.Programs.{stands_for, definition_of, routines_of}
 use Rattle.p9_names.specs.Linking.{IsTable, ChoosesAll}
 use Rattle.p9_place.proofs.Owning.{held-chosen}
 use Rattle.p9_text.specs.Entries.{entry_number}

@@ -1,5 +1,5 @@
 -- Lines that are marked by flags.
-use Rattle.std.proofs.Common.{ℕ, ◌+◌, ◌≡◌, ◌≤◌, ◌<◌, ◌||◌, Bool, false, get_or, replicate, List, [], ◌∷◌, length, refl, sym, ap, ◌∙◌, arith, Result, Ok, Err, IfOk}
+use Rattle.std.proofs.Common.{ℕ, ◌+◌, ◌≡◌, ◌<◌, ◌||◌, Bool, false, get_or, replicate, List, [], ◌∷◌, length, refl, ap, ◌∙◌, arith, Result, Ok, Err, IfOk}
 use Rattle.std.proofs.lemmas.Grind.{common_steps}
 use Rattle.p9_abs.specs.Runs.{Routine}
 use Rattle.p9_r3k.specs.declared.lines.Line.{Line}
@@ -29,6 +29,7 @@ targets_marked starts rs lines none entered firsts again named flags new n same 
   where
     long : length entered ≡ length lines
     long = ap length (same ∙ n) ∙ grind (arith, common_steps)
+
     each : (i : ℕ) → i < 0 + length lines → get_or flags i false ≡ is_first starts 0 rs i || is_named lines i
     each i below =
         let within : i < length entered = omega (arith, below, long) in

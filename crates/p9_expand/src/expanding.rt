@@ -1,5 +1,6 @@
 // The lines of modules.
 ghost use Rattle.std.specs.Prelude.{◌≡◌, ◌≢◌, ◌⊎◌, ◌<◌, ◌≤◌, ◌^◌, All, length, Err, IsOk, IfOk, IfErr};
+ghost use Rattle.p9_abs.specs.Validity.{IsValid};
 ghost use Rattle.p9_abs.specs.BuiltIn.{builtin_module, linked};
 ghost use Rattle.p9_abs.specs.Programs.{inits_of, bss_of, init_size, routines_of};
 ghost use Rattle.p9_names.specs.Linking.{IsTable, ChoosesAll};
@@ -9,6 +10,9 @@ ghost use Rattle.p9_text.specs.declared.weighing.ExpandFault.TheVariants.{Memory
 ghost use Rattle.p9_text.specs.Weights.{text_weight, text_limit, IsTooLarge};
 ghost use Rattle.p9_lines.specs.FormLines.{start_lines};
 ghost use Rattle.p9_pieces.specs.Callees.{callee_of};
+ghost use Rattle.p9_lines.specs.Weights.{words_needed};
+ghost use Rattle.p9_slot.specs.Schedule.{HaveTargets, TargetsAreLines};
+ghost use Rattle.p9_expand.specs.Laws.{IsMarked};
 ghost use Rattle.p9_expand.specs.Base.{argument_list, base_offset};
 ghost use Rattle.p9_expand.specs.Program.{lines_of, program_lines};
 
@@ -27,7 +31,8 @@ use std::alloc::Global;
 fn base_offset(modules: &Vec<AModule>, places: &Places) -> u32
     requires count { length modules.now.items < 2 ^ 32 }
     requires inits { places.now.inits.items ≡ spots 0 (inits_of (linked modules.now.items)) }
-    requires bss { places.now.bss.items ≡ spots (init_size (linked modules.now.items)) (bss_of (linked modules.now.items)) }
+    requires bss { places.now.bss.items ≡ spots places.now.data_size (bss_of (linked modules.now.items)) }
+    requires data_size { places.now.data_size ≡ init_size (linked modules.now.items) }
     ensures { result ≡ base_offset modules.now.items }
 {
     let def = Def {
@@ -69,7 +74,8 @@ fn expanded<'a>(
     requires table { IsTable (linked modules.now.items) table.now.defs.entries }
     requires chosen { ChoosesAll (linked modules.now.items) table.now.defs.entries }
     requires inits { places.now.inits.items ≡ spots 0 (inits_of (linked modules.now.items)) }
-    requires bss { places.now.bss.items ≡ spots (init_size (linked modules.now.items)) (bss_of (linked modules.now.items)) }
+    requires bss { places.now.bss.items ≡ spots places.now.data_size (bss_of (linked modules.now.items)) }
+    requires data_size { places.now.data_size ≡ init_size (linked modules.now.items) }
     ensures lines { IfOk result (λ lines. lines ≡ program_lines modules.now.items) }
     ensures fits { IfOk result (λ lines. text_weight (routines_of modules.now.items) ≤ text_limit) }
     ensures refused { IfErr result (IsTooLarge (text_weight (routines_of modules.now.items))) }
@@ -94,13 +100,23 @@ pub fn expand(
     table: &Table,
     places: &Places,
 ) -> Result<Lines, ExpandFault>
+    requires valid { All IsValid modules.now.items }
     requires count { length modules.now.items < 2 ^ 32 }
     requires small { All (λ m. length m.symbols < 2 ^ 32) modules.now.items }
     requires table { IsTable (linked modules.now.items) table.now.defs.entries }
     requires chosen { ChoosesAll (linked modules.now.items) table.now.defs.entries }
     requires inits { places.now.inits.items ≡ spots 0 (inits_of (linked modules.now.items)) }
-    requires bss { places.now.bss.items ≡ spots (init_size (linked modules.now.items)) (bss_of (linked modules.now.items)) }
+    requires bss { places.now.bss.items ≡ spots places.now.data_size (bss_of (linked modules.now.items)) }
+    requires data_size { places.now.data_size ≡ init_size (linked modules.now.items) }
     ensures lines { IfOk result (λ lines. lines ≡ program_lines modules.now.items) }
+
+    // What the schedule asks: each branch and jump has a target, and targets are lines.
+    ensures targets { IfOk result (λ lines. HaveTargets lines) }
+    ensures aims { IfOk result (λ lines. TargetsAreLines lines) }
+    ensures marks { IfOk result (λ lines. IsMarked modules.now.items lines) }
+
+    // With the no-ops that they need, the lines are within the weights.
+    ensures words { IfOk result (λ lines. words_needed lines ≤ text_weight (routines_of modules.now.items)) }
     ensures refused { IfErr result (IsTooLarge (text_weight (routines_of modules.now.items))) }
 
     // The cause is the answer where it holds, and the lines else, unless memory ran out.

@@ -1,14 +1,12 @@
-use Rattle.std.proofs.Common.{ℕ, ◌≡◌, ◌∷◌, ◌++◌, [], Option, List, ap, ◌∙◌, length, arith}
-use Rattle.p9_abs.specs.declared.modules.AModule.{AModule}
+use Rattle.std.proofs.Common.{◌≡◌, ◌∷◌, ◌++◌, [], ap, ◌∙◌, length, arith}
 use Rattle.p9_abs.specs.declared.modules.Def.{Def}
 use Rattle.p9_abs.specs.BuiltIn.{linked}
-use Rattle.p9_abs.specs.Runs.{Routine}
 use Rattle.p9_abs.specs.Programs.{routines_of}
 use Rattle.p9_lines.specs.FormLines.{start_lines}
 use Rattle.p9_text.specs.Entries.{entry_number, held}
 use Rattle.p9_pieces.specs.Callees.{callee_in, callee_by}
-use Rattle.p9_expand.specs.Base.{argument_list, base_offset}
-use Rattle.p9_expand.specs.Program.{lines_of, program_lines}
+use Rattle.p9_expand.specs.Base.{argument_list}
+use Rattle.p9_expand.specs.Program.{lines_of}
 use Rattle.p9_expand.proofs.Calling.{callees_same}
 use Rattle.p9_expand.proofs.expanding.expanded.Goals as goal
 
