@@ -1,0 +1,80 @@
+-- What is promised of the tokens of a unit.
+use Rattle.std.specs.Prelude.{◌≡◌, ℕ, ◌+◌, ◌<◌, ◌≤◌, List, [], ◌∷◌, ◌++◌, take, length, nat_eq, Bool, true, false, ◌&&◌, Result, Ok, Err, Option, Some, None, ⊤}
+use Rattle.p9_lex.specs.declared.token.Token.{Token}
+use Rattle.p9_grammar.specs.declared.terminal.Terminal.{Terminal}
+use Rattle.p9_grammar.specs.declared.terminal.Terminal.TheVariants.{End}
+use Rattle.p9_grammar.specs.Trees.{Trees, height_in, nodes_in}
+use Rattle.p9_grammar.specs.Promise.{IsFile, BeginsFile, file_tokens}
+use Rattle.p9_grammar.specs.declared.head.Head.{Head}
+use Rattle.p9_grammar.specs.declared.head.Head.TheVariants as head
+use Rattle.p9_grammar.specs.Machine.{Frame, Stack, State, run, file_start}
+use Rattle.p9_prefix.specs.Growth.{height_so_far, nodes_so_far}
+use Rattle.p9_terminal.specs.Terminals.{terminals}
+use Rattle.p9_parse.specs.declared.fault.ParseFault.{ParseFault}
+use Rattle.p9_parse.specs.declared.fault.ParseFault.TheVariants as fault
+
+-- The last token is the end.
+abbrev pub EndsInEnd : List Token → Type 0
+EndsInEnd tokens = (front : List Terminal) × (terminals tokens ≡ front ++ End ∷ [])
+
+-- With the token at this place no unit begins so.
+abbrev pub BreaksAt : List Token → ℕ → Type 0
+BreaksAt tokens k = BeginsFile (terminals (take (k + 1) tokens)) → ⊥
+
+-- Each unit that begins with so many of the tokens is higher.
+abbrev pub AllHigher : List Token → (n limit : ℕ) → Type 0
+AllHigher tokens n limit =
+    (items : Trees) (rest : List Terminal) → IsFile items → file_tokens items ≡ terminals (take n tokens) ++ rest → limit < height_in items
+
+-- Each unit that begins with so many of the tokens has more nodes.
+abbrev pub AllLarger : List Token → (n limit : ℕ) → Type 0
+AllLarger tokens n limit =
+    (items : Trees) (rest : List Terminal) → IsFile items → file_tokens items ≡ terminals (take n tokens) ++ rest → limit < nodes_in items
+
+-- What a refusal says of the tokens: nothing where memory ends.
+abbrev pub Refuses : List Token → ParseFault → Type 0
+Refuses tokens (fault.Syntax k) = (k < length tokens) × BreaksAt tokens k
+Refuses tokens (fault.TooDeep limit item) = (limit ≡ 100) × ((n : ℕ) × AllHigher tokens n limit)
+Refuses tokens (fault.TooManyNodes limit item) = (limit ≡ 100000) × ((n : ℕ) × AllLarger tokens n limit)
+Refuses tokens fault.Memory = ⊤
+
+abbrev pub IfRefused : {A : Type 0} → List Token → Result A ParseFault → Type 0
+IfRefused tokens (Ok x) = ⊤
+IfRefused tokens (Err e) = Refuses tokens e
+
+-- What the machine has read keeps both limits.
+abbrev pub IsWithin : State → Type 0
+IsWithin st = (height_so_far st ≤ 100) × (nodes_so_far st ≤ 100000)
+
+-- A step behind which both limits are kept; or it is refused at this place, or passes a limit.
+abbrev pub ReadsOne : {A : Type 0} → Option State → ℕ → Result A ParseFault → State → Type 0
+ReadsOne r k (Ok x) st = (r ≡ Some st) × IsWithin st
+ReadsOne r k (Err (fault.Syntax j)) st = (j ≡ k) × (r ≡ None)
+ReadsOne r k (Err (fault.TooDeep limit item)) st = (r ≡ Some st) × (limit ≡ 100) × (100 < height_so_far st)
+ReadsOne r k (Err (fault.TooManyNodes limit item)) st = (r ≡ Some st) × (limit ≡ 100000) × (100000 < nodes_so_far st)
+ReadsOne r k (Err fault.Memory) st = ⊤
+
+-- Both limits are kept, or one is passed.
+abbrev pub Limits : {A : Type 0} → Result A ParseFault → State → Type 0
+Limits (Ok x) st = IsWithin st
+Limits (Err (fault.Syntax k)) st = ⊥
+Limits (Err (fault.TooDeep limit item)) st = (limit ≡ 100) × (100 < height_so_far st)
+Limits (Err (fault.TooManyNodes limit item)) st = (limit ≡ 100000) × (100000 < nodes_so_far st)
+Limits (Err fault.Memory) st = ⊤
+
+-- The machine has read all tokens, within both limits.
+abbrev pub HasRead : List Token → State → Type 0
+HasRead tokens st = (run (Some file_start) (terminals tokens) ≡ Some st) × IsWithin st
+
+abbrev pub is_over : Head → Bool
+is_over head.FileOver = true
+is_over _ = false
+
+-- whether an open node is a file that has come to its end
+abbrev pub is_whole : Frame → Bool
+is_whole f = is_over f.head && nat_eq f.from 0
+
+-- and is the only one
+abbrev pub is_file : Stack → Bool
+is_file (f ∷ []) = is_whole f
+is_file _ = false

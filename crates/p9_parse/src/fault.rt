@@ -1,0 +1,23 @@
+// Why tokens are no unit.
+use std::alloc::AllocError;
+
+/// Why tokens have no tree. A limit comes with the place of the first token of the item that passes it.
+#[derive(Clone, Copy, Debug, PartialEq, Eq, Drop)]
+pub enum ParseFault {
+    /// No unit begins with the tokens up to this place.
+    Syntax(u32),
+    TooDeep { limit: u32, item: u32 },
+    TooManyNodes { limit: u32, item: u32 },
+    Memory,
+}
+
+impl From<AllocError> for ParseFault {
+    ghost use Rattle.std.specs.Prelude.{◌≡◌};
+    ghost use Rattle.p9_parse.specs.declared.fault.ParseFault.TheVariants.{Memory};
+
+    ghost from_gives = { λ _ e. e ≡ Memory };
+
+    fn from(_: AllocError) -> ParseFault {
+        ParseFault::Memory
+    }
+}
