@@ -6,3 +6,4 @@ pub mod Branching
 pub mod Returning
 pub mod Asking
 pub mod Forms
+pub mod Entries
