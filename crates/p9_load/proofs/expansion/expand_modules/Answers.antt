@@ -1,4 +1,4 @@
-use Rattle.std.proofs.Common.{◌≡◌, Result, Ok, Err, sym, subst, arith}
+use Rattle.std.proofs.Common.{◌≡◌, Result, Err, sym, subst, arith}
 use Rattle.p9_load.specs.declared.expansion.Expansion.{Expansion}
 use Rattle.p9_load.specs.declared.fault.LoadFault.{LoadFault}
 use Rattle.p9_load.specs.Faults.{of_link, of_place, of_expand}
