@@ -1,9 +1,9 @@
 -- The machine at each token of a unit.
-use Rattle.std.proofs.Common.{◌≡◌, ℕ, suc, ◌+◌, ◌-◌, ◌<◌, ◌≤◌, max, reverse, List, [], ◌∷◌, ◌++◌, length, take, get_or, true, false, Option, Some, None, Err, refl, sym, ap, subst, ◌∙◌, arith, append_assoc, append-nil}
+use Rattle.std.proofs.Common.{◌≡◌, ℕ, suc, ◌+◌, ◌<◌, ◌≤◌, max, reverse, List, [], ◌∷◌, ◌++◌, length, take, get_or, true, false, Option, Some, None, Err, refl, sym, ap, subst, ◌∙◌, arith, append_assoc, append-nil}
 use Rattle.std.specs.Prelude.{nat_eq}
 use Rattle.std.proofs.lemmas.Bool.{and_parts}
 use Rattle.std.proofs.lemmas.Bool.Decides.{nat_tests}
-use Rattle.std.proofs.lemmas.List.{take_more, take_all, map-append, length-reverse}
+use Rattle.std.proofs.lemmas.List.{take_more, map-append, length-reverse}
 use Rattle.p9_lex.specs.declared.token.Token.{Token}
 use Rattle.p9_grammar.specs.declared.terminal.Terminal.{Terminal}
 use Rattle.p9_grammar.specs.Trees.{Trees, height_in, nodes_in}
@@ -17,13 +17,14 @@ use Rattle.p9_grammar.proofs.Sound.{reads-only-files}
 use Rattle.p9_grammar.specs.declared.terminal.Terminal.TheVariants as t
 use Rattle.p9_prefix.specs.Growth.{height_so_far, nodes_so_far, raised, joined, height_of, size_of}
 use Rattle.p9_prefix.proofs.Endless.{ends_once}
+use Rattle.p9_viable.proofs.Beginning.{goes-on}
 use Rattle.p9_tree_build.specs.declared.frame.Frame as frame
 use Rattle.p9_tree_build.specs.Machines.{stack_of}
 use Rattle.p9_prefix.proofs.Growing.{only-grows}
 use Rattle.p9_terminal.specs.Terminals.{terminal_of, terminals}
 use Rattle.p9_parse.specs.declared.fault.ParseFault.{ParseFault}
 use Rattle.p9_parse.specs.declared.fault.ParseFault.TheVariants as fault
-use Rattle.p9_parse.specs.Units.{BreaksAt, AllHigher, AllLarger, Refuses, ReadsOne, IsWithin, EndsInEnd, is_over, is_whole, is_file}
+use Rattle.p9_parse.specs.Units.{Begins, BreaksAt, AllHigher, AllLarger, Refuses, ReadsOne, IsWithin, EndsInEnd, is_over, is_whole, is_file}
 
 run-none : (ts : List Terminal) → run None ts ≡ None
 run-none [] = refl
@@ -42,8 +43,11 @@ one_step ts i d st h e =
     ∙ run-append (Some file_start) (terminals (take i ts)) (terminal_of (get_or ts i d).kind ∷ [])
     ∙ ap (λ r. run r (terminal_of (get_or ts i d).kind ∷ [])) e
 
-breaks : (ts : List Token) (i : ℕ) → run (Some file_start) (terminals (take (i + 1) ts)) ≡ None → BreaksAt ts i
-breaks ts i e = refuses-rightly (terminals (take (i + 1) ts)) e
+begun : (ts : List Token) (n : ℕ) (st : State) → run (Some file_start) (terminals (take n ts)) ≡ Some st → Begins ts n
+begun ts n st e = goes-on (terminals (take n ts)) st e
+
+breaks : (ts : List Token) (i : ℕ) (st : State) → run (Some file_start) (terminals (take i ts)) ≡ Some st → run (Some file_start) (terminals (take (i + 1) ts)) ≡ None → BreaksAt ts i
+breaks ts i st r e = (begun ts i st r, refuses-rightly (terminals (take (i + 1) ts)) e)
 
 higher : (ts : List Token) (n limit : ℕ) (st : State) → run (Some file_start) (terminals (take n ts)) ≡ Some st → limit < height_so_far st → AllHigher ts n limit
 higher ts n limit st e h items rest is f = let g = only-grows items (terminals (take n ts)) rest st is f e in omega (arith, g.0)
@@ -60,11 +64,11 @@ pub refused_there : (A : Type 0) (ts : List Token) (i k : ℕ) (x : Token) (st n
     run (Some file_start) (terminals (take i ts)) ≡ Some st → ReadsOne {A = A} (step st (terminal_of x.kind)) k (Err e) new → Refuses ts e
 refused_there A ts i k x st new (fault.Syntax j) p q h r w =
     let z : j ≡ i = w.0 ∙ p in
-    (omega arith, subst (BreaksAt ts) (sym z) (breaks ts i (read_step ts i x st q h r ∙ w.1)))
+    (omega arith, subst (BreaksAt ts) (sym z) (breaks ts i st r (read_step ts i x st q h r ∙ w.1)))
 refused_there A ts i k x st new (fault.TooDeep limit item) p q h r w =
-    (w.1, (i + 1, higher ts (i + 1) limit new (read_step ts i x st q h r ∙ w.0) (omega (arith, w.1, w.2))))
+    (w.1, (i + 1, begun ts (i + 1) new (read_step ts i x st q h r ∙ w.0), higher ts (i + 1) limit new (read_step ts i x st q h r ∙ w.0) (omega (arith, w.1, w.2))))
 refused_there A ts i k x st new (fault.TooManyNodes limit item) p q h r w =
-    (w.1, (i + 1, larger ts (i + 1) limit new (read_step ts i x st q h r ∙ w.0) (omega (arith, w.1, w.2))))
+    (w.1, (i + 1, begun ts (i + 1) new (read_step ts i x st q h r ∙ w.0), larger ts (i + 1) limit new (read_step ts i x st q h r ∙ w.0) (omega (arith, w.1, w.2))))
 refused_there A ts i k x st new fault.Memory p q h r w = tt
 
 -- A file that has come to its end.
@@ -96,30 +100,13 @@ several (f ∷ g ∷ fs) h = refl
 pub not_alone : (fs : List frame.Frame) → 2 ≤ length fs → is_file (stack_of (reverse fs)) ≡ false
 not_alone fs h = several (reverse fs) (omega (arith, length-reverse fs))
 
--- What is unread where all tokens are read is no unit.
-pub unread : (ts : List Token) (st : State) (k : ℕ) → run (Some file_start) (terminals ts) ≡ Some st → EndsInEnd ts → ((items : Trees) → IsRead items (Some st) → ⊥) → k ≡ length ts - 1 →
-    Refuses ts (fault.Syntax k)
-unread ts st k e h g q =
-    let few : 1 ≤ length ts = some_token ts h in
-    (omega arith, λ b. nothing b (all few))
-  where
-    some_token : (us : List Token) → EndsInEnd us → 1 ≤ length us
-    some_token [] z = absurd (nonempty z.0 z.1)
-      where
-        nonempty : (front : List Terminal) → [] ≡ front ++ t.End ∷ [] → ⊥
-        nonempty [] w = cc
-        nonempty (x ∷ xs) w = cc
-    some_token (u ∷ us) z = omega arith
-
-    all : 1 ≤ length ts → take (k + 1) ts ≡ ts
-    all few = take_all (k + 1) ts (omega arith)
-
-    nothing : BeginsFile (terminals (take (k + 1) ts)) → take (k + 1) ts ≡ ts → ⊥
-    nothing b full =
-        let w : file_tokens b.0 ≡ terminals ts ++ b.1 = b.3 ∙ ap (λ us. terminals us ++ b.1) full in
-        let ends : b.1 ≡ [] = ends_once b.0 h.0 b.1 (w ∙ ap (λ us. us ++ b.1) h.1 ∙ append_assoc h.0 (t.End ∷ []) b.1) in
-        let same : file_tokens b.0 ≡ terminals ts = w ∙ ap (λ us. terminals ts ++ us) ends ∙ append-nil (terminals ts) in
-        g b.0 (subst (IsRead b.0) (ap (run (Some file_start)) same ∙ e) (reads-files b.0 b.2))
+-- Behind the end all of a file is read.
+pub end_is_read : (ts : List Token) (st : State) → run (Some file_start) (terminals ts) ≡ Some st → EndsInEnd ts → ((items : Trees) → IsRead items (Some st) → ⊥) → ⊥
+end_is_read ts st e h g =
+    let b : BeginsFile (terminals ts) = goes-on (terminals ts) st e in
+    let ends : b.1 ≡ [] = ends_once b.0 h.0 b.1 (b.3 ∙ ap (λ us. us ++ b.1) h.1 ∙ append_assoc h.0 (t.End ∷ []) b.1) in
+    let same : file_tokens b.0 ≡ terminals ts = b.3 ∙ ap (λ us. terminals ts ++ us) ends ∙ append-nil (terminals ts) in
+    g b.0 (subst (IsRead b.0) (ap (run (Some file_start)) same ∙ e) (reads-files b.0 b.2))
 
 -- The items that are read are a file with these tokens, within both limits.
 pub read_tree : (ts : List Token) (st : State) (items : Trees) → run (Some file_start) (terminals ts) ≡ Some st → IsRead items (Some st) → IsFile items × (file_tokens items ≡ terminals ts)

@@ -17,9 +17,13 @@ use Rattle.p9_parse.specs.declared.fault.ParseFault.TheVariants as fault
 abbrev pub EndsInEnd : List Token → Type 0
 EndsInEnd tokens = (front : List Terminal) × (terminals tokens ≡ front ++ End ∷ [])
 
--- With the token at this place no unit begins so.
+-- Some unit begins with so many of the tokens.
+abbrev pub Begins : List Token → (n : ℕ) → Type 0
+Begins tokens n = BeginsFile (terminals (take n tokens))
+
+-- Some unit begins with the tokens before this place, and none with the one at this place too.
 abbrev pub BreaksAt : List Token → ℕ → Type 0
-BreaksAt tokens k = BeginsFile (terminals (take (k + 1) tokens)) → ⊥
+BreaksAt tokens k = Begins tokens k × (Begins tokens (k + 1) → ⊥)
 
 -- Each unit that begins with so many of the tokens is higher.
 abbrev pub AllHigher : List Token → (n limit : ℕ) → Type 0
@@ -34,8 +38,8 @@ AllLarger tokens n limit =
 -- What a refusal says of the tokens: nothing where memory ends.
 abbrev pub Refuses : List Token → ParseFault → Type 0
 Refuses tokens (fault.Syntax k) = (k < length tokens) × BreaksAt tokens k
-Refuses tokens (fault.TooDeep limit item) = (limit ≡ 100) × ((n : ℕ) × AllHigher tokens n limit)
-Refuses tokens (fault.TooManyNodes limit item) = (limit ≡ 100000) × ((n : ℕ) × AllLarger tokens n limit)
+Refuses tokens (fault.TooDeep limit item) = (limit ≡ 100) × ((n : ℕ) × Begins tokens n × AllHigher tokens n limit)
+Refuses tokens (fault.TooManyNodes limit item) = (limit ≡ 100000) × ((n : ℕ) × Begins tokens n × AllLarger tokens n limit)
 Refuses tokens fault.Memory = ⊤
 
 abbrev pub IfRefused : {A : Type 0} → List Token → Result A ParseFault → Type 0

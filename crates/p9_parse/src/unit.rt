@@ -168,8 +168,7 @@ pub fn parse(alloc: Global, tokens: &Tokens) -> Result<Tree, ParseFault>
         Err(fault) => return Err(fault),
     };
     let Some(items) = finish(reader) else {
-        let last = place_of(tokens.list.len().saturating_sub(1))?;
-        return Err(ParseFault::Syntax(last));
+        unreachable!();
     };
     let marks = marks(alloc, tokens.marks.as_slice())?;
     Ok(Tree { items, marks })

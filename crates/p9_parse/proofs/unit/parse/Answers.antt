@@ -1,17 +1,16 @@
-use Rattle.std.proofs.Common.{◌≡◌, ◌-◌, length, Some, sym, ap, ◌∙◌, arith}
+use Rattle.std.proofs.Common.{◌≡◌, Some, sym, ap, ◌∙◌}
 use Rattle.p9_grammar.specs.Trees.{trees_of}
 use Rattle.p9_grammar.specs.Machine.{run, file_start}
 use Rattle.p9_terminal.specs.Terminals.{terminals}
 use Rattle.p9_tree_reader.specs.Reading.{state_of}
-use Rattle.p9_parse.proofs.Walking.{unread, read_tree, read_within}
+use Rattle.p9_parse.proofs.Walking.{end_is_read, read_tree, read_within}
 use Rattle.p9_parse.proofs.unit.parse.Goals as goal
 
-pub returns-in_default-clause-refused : goal.returns-in_default-clause-refused
-returns-in_default-clause-refused c =
+pub unreachable-requires : goal.unreachable-requires
+unreachable-requires c =
     let r : run (Some file_start) (terminals c.args.tokens.now.list.items) ≡ Some (state_of c.in-Ok.reader) =
     ap (λ us. run (Some file_start) (terminals us)) (sym c.as_slice.ensures.value) ∙ c.in-Ok.ensures.read.0 in
-    let k : c.in_ok-last.last ≡ length c.args.tokens.now.list.items - 1 = omega (arith, c.in_ok-last.ensures) in
-    unread c.args.tokens.now.list.items (state_of c.in-Ok.reader) c.in_ok-last.last r c.requires c.in_default.ensures.unread k
+    end_is_read c.args.tokens.now.list.items (state_of c.in-Ok.reader) r c.requires c.in_default.ensures.unread
 
 pub returns-clause-tree : goal.returns-clause-tree
 returns-clause-tree c =

@@ -1,0 +1,4 @@
+pub mod Tame
+pub mod Ahead
+pub mod Resting
+pub mod Beginning
