@@ -29,6 +29,7 @@ pub record Alike (apart : ℕ → Bool) (x y : State) : Type 0 where
   pub base : reg x.core 30 ≡ reg y.core 30
   pub memory : SameMemory apart x y
   pub words : HoldsWords y.core
+  pub ending : y.core.ending ≡ x.core.ending
 
 -- Calls and returns
 
@@ -48,6 +49,7 @@ linked-alike apart x y to word k = record {
     output = k.memory.output;
   };
   words = with_register-words y.core 31 to word k.words;
+  ending = k.ending;
 }
 
 abbrev raised_by : Bool → ℕ → State → State
@@ -73,6 +75,7 @@ raised-alike-by true frame apart x y count k =
         output = k.memory.output;
       };
       words = with_register-words y.core 29 w (omega arith) k.words;
+      ending = k.ending;
     }
 
 -- behind a RET
@@ -166,6 +169,10 @@ match-alike g shut other apart active m s x y free k h = record {
   bytes = subst AreBytes k.memory.input h.bytes;
   laid = laid-alike apart x y k.memory h.laid;
   data_start = sym k.memory.data_start ∙ h.data_start;
+  behind = h.behind;
+  gap = (let low = k.memory.low in let up = h.gap in omega (arith, low, up));
+  order = sym k.memory.order ∙ h.order;
+  running = k.ending ∙ h.running;
 }
   where
     lies : (byte : ℕ) → Lies x.core byte → Lies y.core byte

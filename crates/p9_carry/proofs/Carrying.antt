@@ -24,6 +24,7 @@ use Rattle.p9_cmean.specs.Plays.{Call, Play, Done, Wrong, NoMeaning, Exit, Cut, 
 use Rattle.p9_sim.specs.Memory.{Map, Ground, StandsValue, Owner}
 use Rattle.p9_sim.specs.Matching.{Lies, IsArgument, AtCall, Entry, entry_of, Leaves, Answers}
 use Rattle.p9_sim.specs.Playing.{Branches, Count, IsPaid, after_plain, after_branch, after_call, after_turn, after_copy, Setting, step_in, Continues, Goes, after_return, Performs}
+use Rattle.p9_carry.proofs.Ending.{EndingStays, ending-stays}
 use Rattle.p9_carry.proofs.Alike.{bool-not, Alike, linked-alike, raised-alike, raised-count, match-alike, arguments-alike}
 
 abbrev IsEvent : Step → Type 0
@@ -165,6 +166,7 @@ module _ (base : Setting) (around_a around_b : Around) (def_a def_b : TextDef) (
     pub record Sync (x y : Mach) : Type 0 where
       pub out : y.state.out ≡ x.state.out
       pub left : y.state.left ≡ x.state.left
+      pub ending : y.state.core.ending ≡ x.state.core.ending
       pub stack : reg x.state.core 29 ≡ sp
       pub holds : Holds y
       pub follows : (n : ℕ) → Follows apart side_a side_b n x y
@@ -177,6 +179,16 @@ module _ (base : Setting) (around_a around_b : Around) (def_a def_b : TextDef) (
 
     silent-b : (x : Mach) (s : Step) → steps_of side_b x ≡ s → IsSilent x.state s
     silent-b x s e = subst (IsSilent x.state) e (silent_steps around_b def_b.code x (suits.silent_b x.at))
+
+    ending-a : (x : Mach) (s : Step) → steps_of side_a x ≡ s → EndingStays x.state s
+    ending-a x s e = subst (EndingStays x.state) e (ending-stays around_a def_a.code x (suits.silent_a x.at))
+
+    ending-b : (x : Mach) (s : Step) → steps_of side_b x ≡ s → EndingStays x.state s
+    ending-b x s e = subst (EndingStays x.state) e (ending-stays around_b def_b.code x (suits.silent_b x.at))
+
+    quiet-ending : (j : ℕ) (x y : Mach) → Quiet side_b j x y → y.state.core.ending ≡ x.state.core.ending
+    quiet-ending zero x y q = ap (λ z. z.state.core.ending) (sym q)
+    quiet-ending (suc j) x y q = quiet-ending j q.0 y q.2 ∙ ending-b x (Next q.0) q.1
 
     quiet-even : (j : ℕ) (x y : Mach) → Quiet side_b j x y → (y.state.out ≡ x.state.out) × (y.state.left ≡ x.state.left)
     quiet-even zero x y q = (ap (λ z. z.state.out) (sym q), ap (λ z. z.state.left) (sym q))
@@ -254,7 +266,7 @@ module _ (base : Setting) (around_a around_b : Around) (def_a def_b : TextDef) (
             → ((z : Mach) (n : Count) (y2 : Mach) (m : Count) → Goes a j z n x1 e → EvenCount n m → Sync z y2 → Kept x1 e y2 m) → Kept x1 e y d'
         by (Next z) h g' f rec =
             let si = silent-a x (Next z) h in
-            rec z d y d' g' ev (record { out = sy.out ∙ sym si.0; left = sy.left ∙ sym si.1; stack = stack-step x (Next z) h ∙ sy.stack; holds = sy.holds; follows = f })
+            rec z d y d' g' ev (record { out = sy.out ∙ sym si.0; left = sy.left ∙ sym si.1; ending = sy.ending ∙ sym (ending-a x (Next z) h); stack = stack-step x (Next z) h ∙ sy.stack; holds = sy.holds; follows = f })
         by (Turns taken z) h g' f rec =
             let w = f 0 in
             let same : (n : ℕ) → (f n).2 ≡ w.2 = λ n. turns-same taken taken (f n).2 w.2 (sym (f n).4
@@ -269,6 +281,7 @@ module _ (base : Setting) (around_a around_b : Around) (def_a def_b : TextDef) (
             (record {
               out = sb.0 ∙ (qe.0 ∙ (sy.out ∙ sym si.0));
               left = sb.1 ∙ (qe.1 ∙ (sy.left ∙ sym si.1));
+              ending = ending-b w.1 (Turns taken w.2) w.4 ∙ (quiet-ending w.0 y w.1 w.3 ∙ (sy.ending ∙ sym (ending-a x (Turns taken z) h)));
               stack = stack-step x (Turns taken z) h ∙ sy.stack;
               holds = holds-step w.1 (Turns taken w.2) w.4 (quiet-holds w.0 y w.1 w.3 sy.holds);
               follows = λ n. subst (Follows apart side_a side_b n z) (same n) (f n).6;
@@ -289,8 +302,8 @@ module _ (base : Setting) (around_a around_b : Around) (def_a def_b : TextDef) (
 
     -- what the two settings see of each other
 
-    alike-of : (u v : Mach) → Meet apart u v → HoldsWords v.state.core → Alike apart u.state v.state
-    alike-of u v m words = record { result = m.result; stack = m.stack; base = m.base; memory = m.memory; words = words }
+    alike-of : (u v : Mach) → Meet apart u v → HoldsWords v.state.core → v.state.core.ending ≡ u.state.core.ending → Alike apart u.state v.state
+    alike-of u v m words ending = record { result = m.result; stack = m.stack; base = m.base; memory = m.memory; words = words; ending = ending }
 
     -- a byte that isn't shut is not apart
     not-apart : (n : ℕ) → shut_a n ≡ false → apart n ≡ false
@@ -338,6 +351,10 @@ module _ (base : Setting) (around_a around_b : Around) (def_a def_b : TextDef) (
             bytes = q.bytes;
             laid = q.laid;
             data_start = q.data_start;
+            behind = q.behind;
+            gap = q.gap;
+            order = q.order;
+            running = q.running;
           };
           leaves = record {
             addresses = l.addresses;
@@ -438,7 +455,8 @@ module _ (base : Setting) (around_a around_b : Around) (def_a def_b : TextDef) (
               let raised_is = raised-count def_a (linked_to to u.state) in
               done-alike h.4 s (after_return a to u) (after_return b to w.2) v ans
               (raised-alike def_a def_b apart (linked_to to u.state) (linked_to to w.2.state) suits.same_keeps suits.same_frame (sym raised_is ∙ count)
-              (linked-alike apart u.state w.2.state to word (alike-of u w.2 w.5 holds.words)))),
+              (linked-alike apart u.state w.2.state to word (alike-of u w.2 w.5 holds.words
+              (ending-b w.1 (Returns w.2) w.4 ∙ (quiet-ending w.0 k.to w.1 w.3 ∙ (k.sync.ending ∙ sym (ending-a r.to (Returns u) h.2)))))))),
         )
     carry (Wrong why place s) m d d' x y h ev sy = tt
     carry (NoMeaning place s) m d d' x y h ev sy = tt
@@ -468,7 +486,8 @@ module _ (base : Setting) (around_a around_b : Around) (def_a def_b : TextDef) (
         let holds : Holds z.2 = holds-step z.1 (Calls to_call z.2) z.4 (quiet-holds z.0 k.to z.1 z.3 k.sync.holds) in
         let meet : Meet apart u z.2 = z.5 in
         let stack : reg u.state.core 29 ≡ sp = stack-step r.to (Calls to_call u) h.2 ∙ k.sync.stack in
-        let linked : (to : ℕ) → IsWord to → Alike apart (linked_to to u.state) (linked_to to z.2.state) = λ to word. linked-alike apart u.state z.2.state to word (alike-of u z.2 meet holds.words) in
+        let linked : (to : ℕ) → IsWord to → Alike apart (linked_to to u.state) (linked_to to z.2.state) = λ to word. linked-alike apart u.state z.2.state to word (alike-of u z.2 meet holds.words
+        (ending-b z.1 (Calls to_call z.2) z.4 ∙ (quiet-ending z.0 k.to z.1 z.3 ∙ (k.sync.ending ∙ sym (ending-a r.to (Calls to_call u) h.2))))) in
         let st = k.even.steps in (
           record { steps = k.steps + z.0; to = z.1; count = k.count; goes = goes-goes k.steps z.0 y k.to z.1 d' k.count k.count k.goes (goes-on z.0 k.to z.1 k.count z.3) },
           z.2,
@@ -485,6 +504,7 @@ module _ (base : Setting) (around_a around_b : Around) (def_a def_b : TextDef) (
               (record {
                 out = refl;
                 left = refl;
+                ending = refl;
                 stack = both.stack ∙ stack;
                 holds = record { words = ans.matched.words; input = ans.matched.bytes; variables = holds.variables };
                 follows = λ i. subst (λ g. Follows apart side_a side_b i (record u { state = c }) (record g { state = c })) (same i)

@@ -254,6 +254,7 @@ module _ (f : AFunction) (rs : List Region) (homes : List (Option ℕ)) (def : T
   sync keeps_steps = record {
     out = refl;
     left = refl;
+    ending = refl;
     stack = stack_is;
     holds = record { words = words; input = (let e = begun [] in e.input); variables = All-nil IsWord };
     follows = λ n. subst (λ k. Follows (λ b. nat_le k b && in_variable f 0 p.offsets (b - k)) (side_of symbol f l k others) (framed_side symbol def k others) n start_a start_b) stack_is

@@ -1,3 +1,4 @@
+pub mod Ending
 pub mod Alike
 pub mod Carrying
 pub mod Entries

@@ -142,6 +142,7 @@ module _ (f h : AFunction) (code : IsCode f) (same : HasSameLayouts f h) (no_f :
   sync keeps_steps = record {
     out = refl;
     left = refl;
+    ending = refl;
     stack = stack_is;
     holds = record { words = begun.words; input = begun.input; variables = words };
     follows = λ n. subst (λ k. Follows nowhere (side_of symbol f l k others) (side_of symbol h l k others) n start start) stack_is

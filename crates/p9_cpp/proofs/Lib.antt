@@ -11,3 +11,4 @@ pub mod Params
 pub mod Walking
 pub mod Complete
 pub mod Told
+pub mod Mapped

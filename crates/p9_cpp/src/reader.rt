@@ -251,10 +251,12 @@ pub fn expand(
     ensures cleared { IfOk result (λ e. e.hidden ≡ flags_of table.now.entries []) }
     ensures refused { IfErr result (λ e. IsRefused e (limited room (expansion table.now.entries [] false text))) }
 {
+    let mut out = Row::new(alloc);
+    out.reserve(text.len())?;
     let mut reader = Reader {
         stack: Pile::new(alloc),
         left: text,
-        out: Row::new(alloc),
+        out,
         room,
         hidden,
     };

@@ -59,11 +59,23 @@ impl<T: Drop> Row<T> {
         Ok(())
     }
 
-    /// Moves the elements of another to the end.
+    /// Makes room for so many more elements.
+    pub fn reserve(&mut self, more: usize) -> Result<(), NoMemory>
+        ensures { OnOk result (self.new ≡ self.old) }
+    {
+        self.list.reserve(more)?;
+        Ok(())
+    }
+
+    /// Moves the elements of another to the end; an empty row takes the other's place in memory.
     pub fn append(&mut self, more: Row<T>) -> Result<(), NoMemory>
         ensures { OnOk result (self.new ≡ self.old ++ more) }
     {
         let mut more = more.list;
+        if self.list.is_empty() {
+            self.list = more;
+            return Ok(());
+        }
         self.list.append(&mut more)?;
         Ok(())
     }

@@ -57,6 +57,15 @@ fn add_flag(flags: &mut Row<bool>, is_new: bool) -> Result<(), NoMemory>
     if is_new { flags.push(false) } else { Ok(()) }
 }
 
+// Gives tokens the number of their file.
+fn set_file(tokens: &mut [Token], number: u32)
+    ensures { tokens.new ≡ map (in_file number) tokens.old }
+{
+    for t in tokens.iter_mut() {
+        t.file = number;
+    }
+}
+
 impl Unit {
     pub fn new(alloc: Global) -> Unit
         ensures value { state_of result ≡ no_state }
@@ -108,12 +117,9 @@ impl Unit {
         ensures value { OnOk result (state_of self.new ≡ record (state_of self.old) { out = self.old.out ++ map (in_file number) tokens }) }
         ensures ready { OnOk result (IsReady self.new) }
     {
-        let mut left = Pile::of_row(tokens);
-        while let Some(mut t) = left.pop() {
-            t.file = number;
-            self.out.push(t)?;
-        }
-        Ok(())
+        let mut tokens = tokens;
+        set_file(tokens.list.as_mut_slice(), number);
+        self.out.append(tokens)
     }
 
     /// Expands a list of text.

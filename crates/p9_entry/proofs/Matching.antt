@@ -57,13 +57,14 @@ byte-apart x a v byte high h = by (nat_lt a stack_start) refl (nat_lt byte stack
 record Stored (x : Core) (y : Core) : Type 0 where
   pub regs : y.regs ≡ x.regs
   pub order : y.order ≡ x.order
+  pub ending : y.ending ≡ x.ending
   pub start : y.data_start ≡ x.data_start
   pub low : length y.low ≡ length x.low
   pub stack : length y.stack ≡ length x.stack
 
 stored-by : (b : Bool) (x : Core) (low stack : List ℕ) → length low ≡ length x.low → length stack ≡ length x.stack → Stored x (if b then record x { low = low } else record x { stack = stack })
-stored-by true x low stack h k = record { regs = refl; order = refl; start = refl; low = h; stack = refl }
-stored-by false x low stack h k = record { regs = refl; order = refl; start = refl; low = refl; stack = k }
+stored-by true x low stack h k = record { regs = refl; order = refl; ending = refl; start = refl; low = h; stack = refl }
+stored-by false x low stack h k = record { regs = refl; order = refl; ending = refl; start = refl; low = refl; stack = k }
 
 stored : (x : Core) (a v : ℕ) → Stored x (with_word x a v)
 stored x a v =
@@ -85,6 +86,7 @@ record Entered (b : Bool) (frame : ℕ) (x y : State) : Type 0 where
   pub words : HoldsWords y.core
   pub left : y.left ≡ x.left
   pub out : y.out ≡ x.out
+  pub ending : y.core.ending ≡ x.core.ending
   pub laid : IsLaidOut y
   pub sizes : SameSizes x y
   pub memory : (byte : ℕ) → (byte < stack_start) ⊎ (reg x.core 29 ≤ byte) → read_byte y.core byte ≡ read_byte x.core byte
@@ -97,6 +99,7 @@ entered-by false frame x words laid high = record {
   words = words;
   left = refl;
   out = refl;
+  ending = refl;
   laid = laid;
   sizes = record { order = refl; data_start = refl; low = refl; stack = refl };
   memory = λ byte h. refl;
@@ -118,6 +121,7 @@ entered-by true frame x words laid high =
           (word-bytes low.order low.low (sp - text_start) (reg x.core 31) words.low_bytes) (word-bytes low.order low.stack (sp - stack_start) (reg x.core 31) words.stack_bytes);
       left = refl;
       out = refl;
+      ending = w.ending;
       laid = record { text = laid.text; gap = omega (arith, start, gap); data_and_bss = omega (arith, start, lows, within); above = omega (arith, lows, above); stack_size = stacks ∙ size };
       sizes = record { order = w.order; data_start = w.start; low = w.low; stack = w.stack };
       memory = λ byte h. byte-apart low sp (reg x.core 31) byte (omega (arith, high)) (away byte h);
@@ -189,6 +193,10 @@ entries_are_matched g others active need m call s x def at frame room_is fits =
         bytes = subst AreBytes (sym e.left) h.bytes;
         laid = e.laid;
         data_start = e.sizes.data_start ∙ h.data_start;
+        behind = h.behind;
+        gap = (let low = e.sizes.low in let up = h.gap in omega (arith, low, up));
+        order = e.sizes.order ∙ h.order;
+        running = e.ending ∙ h.running;
       };
       stack = e.stack;
       result = e.result;

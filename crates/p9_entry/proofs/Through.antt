@@ -156,6 +156,10 @@ module _ (g : Ground) (symbol : ℕ → ℕ) (counting : Counting) (others : ℕ
             bytes = q.bytes;
             laid = record { text = q.laid.text; gap = q.laid.gap; data_and_bss = q.laid.data_and_bss; above = q.laid.above; stack_size = q.laid.stack_size };
             data_start = q.data_start;
+            behind = q.behind;
+            gap = q.gap;
+            order = q.order;
+            running = q.running;
           };
           leaves = record {
             addresses = l.addresses;

@@ -51,6 +51,10 @@ match-with g shut other active m s x regs text_end h words sp base free = record
   bytes = h.bytes;
   laid = laid-with x regs text_end h.laid;
   data_start = h.data_start;
+  behind = h.behind;
+  gap = h.gap;
+  order = h.order;
+  running = h.running;
 }
   where
     lies : (byte : ℕ) → Lies x.core byte → (let y : State = with_regs x regs text_end in Lies y.core byte)

@@ -1,6 +1,8 @@
 -- When a state of the machine stands for a state of C; a call; and what a call leaves.
 use Rattle.std.specs.Prelude.{◌≡◌, ◌⊎◌, ◌<◌, ◌≤◌, ℕ, ◌+◌, ◌*◌, ◌%◌, Bool, true, false, Some, None, List, [], ◌∷◌, length, slice_get}
-use Rattle.p9_base.specs.Core.{Core, stack_start, stack_end, low_end, reg, read_byte, read_word}
+use Rattle.p9_base.specs.declared.halt.Ending.TheVariants.{Running}
+use Rattle.p9_base.specs.declared.order.ByteOrder.TheVariants.{Big}
+use Rattle.p9_base.specs.Core.{Core, text_start, stack_start, stack_end, low_end, reg, read_byte, read_word}
 use Rattle.p9_base.specs.SystemCalls.{State}
 use Rattle.p9_base.specs.Holding.{HoldsWords, AreBytes, LaidOut}
 use Rattle.p9_abs.specs.Steps.{Mach, without_text}
@@ -49,6 +51,12 @@ pub record Match (g : Ground) (shut : ℕ → Bool) (active : ℕ) (m : Map) (s 
   pub bytes : AreBytes x.left
   pub laid : IsLaidOut x
   pub data_start : x.core.data_start ≡ g.data_start
+  -- data lie behind the text, and between data and the stack is a gap
+  pub behind : text_start < g.data_start
+  pub gap : low_end x.core < stack_start
+  -- words have their highest byte first, and the machine hasn't stopped
+  pub order : x.core.order ≡ Big
+  pub running : x.core.ending ≡ Running
 
 -- CALLS
 

@@ -1,5 +1,5 @@
 -- When the bytes of an object translate a module of C.
-use Rattle.std.specs.Prelude.{◌≡◌, ◌≢◌, ◌⊎◌, ◌<◌, ℕ, Option, Some, None, if◌then◌else◌, List, [], length, map, flat_map, slice_get, Contains}
+use Rattle.std.specs.Prelude.{◌≡◌, ◌≢◌, ◌⊎◌, ◌<◌, ℕ, zero, suc, Option, Some, None, IsSome, if◌then◌else◌, List, [], ◌∷◌, length, map, flat_map, slice_get, Contains}
 use Rattle.p9_abs.specs.declared.instructions.TextDef.{TextDef}
 use Rattle.p9_abs.specs.declared.modules.DataPiece.{DataPiece}
 use Rattle.p9_abs.specs.declared.modules.DataPiece.TheVariants.{Raw, Address}
@@ -17,8 +17,9 @@ use Rattle.p9_lang.specs.Modules.{Source}
 use Rattle.p9_lang.specs.Symbols as symbols
 use Rattle.p9_lang.specs.Symbols.{Symbol, SymbolKind}
 use Rattle.p9_sig.specs.Texts.{signature_text}
-use Rattle.p9_cmean.specs.Cells.{FunctionName, Cell, Byte}
+use Rattle.p9_cmean.specs.Cells.{FunctionName, Pointer, Into, ToFunction, Cell, Unset, Byte}
 use Rattle.p9_cmean.specs.Access.{pointer_cells}
+use Rattle.p9_cmean.specs.Declarations.{definition_of}
 use Rattle.p9_cmean.specs.Joins.{Join}
 use Rattle.p9_cmean.specs.Union.{Union, union_of, function_named}
 use Rattle.p9_cmean.specs.FirstContents.{named_pointer, first_cells}
@@ -29,11 +30,12 @@ use Rattle.p9_sim.specs.Functions.{FnOk}
 
 -- SYMBOLS: the object has those of the module, in their order
 
--- declared only, used, code, data, and data without a first content; data have their sizes
+-- declared only, used, code of a function that has its parts, data, and data without a first content;
+-- data have their sizes
 abbrev pub SameKind : (size : ℕ) → SymbolKind → body.Body → Type 0
 SameKind size symbols.DeclaredOnly Declared = Unit {0}
 SameKind size symbols.Used Used = Unit {0}
-SameKind size (symbols.Code item) (Text def) = Unit {0}
+SameKind size (symbols.Code item) (Text def) = IsSome (definition_of item)
 SameKind size (symbols.Data first) (Data pieces) = pieces_size pieces ≡ size
 SameKind size symbols.Common (Common bytes) = bytes ≡ size
 SameKind size kind what = ⊥
@@ -58,10 +60,16 @@ abbrev pub symbol_name : Option abs.Symbol → List ℕ
 symbol_name None = []
 symbol_name (Some symbol) = symbol.name
 
+-- the cells of an address that was moved by an offset: a function's that was moved is nothing in C
+abbrev pub address_cells : Pointer → (offset : ℕ) → List Cell
+address_cells (Into object at) offset = pointer_cells (Into object at)
+address_cells (ToFunction function) zero = pointer_cells (ToFunction function)
+address_cells (ToFunction function) (suc n) = Unset ∷ Unset ∷ Unset ∷ Unset ∷ []
+
 -- the cells that a piece of data stands for, in a program where this is module `owner`
 abbrev pub piece_cells : Union → (owner : ℕ) → AModule → DataPiece → List Cell
 piece_cells union owner out (Raw bytes) = map Byte bytes
-piece_cells union owner out (Address symbol offset) = pointer_cells (named_pointer union owner (symbol_name (slice_get out.symbols symbol)) offset)
+piece_cells union owner out (Address symbol offset) = address_cells (named_pointer union owner (symbol_name (slice_get out.symbols symbol)) offset) offset
 
 abbrev pub pieces_cells : Union → (owner : ℕ) → AModule → List DataPiece → List Cell
 pieces_cells union owner out pieces = flat_map (piece_cells union owner out) pieces
@@ -85,6 +93,8 @@ Agrees g symbol union owner out =
 pub record IsTranslation (source : Source) (out : AModule) : Type 0 where
   pub count : length out.symbols ≡ length (symbols.symbols source)
   pub same : (k : ℕ) (a : Symbol) (b : abs.Symbol) → slice_get (symbols.symbols source) k ≡ Some a → slice_get out.symbols k ≡ Some b → SameSymbol source.tags a b
+  -- whatever their linkage, no two have one name
+  pub distinct : (j k : ℕ) (a b : abs.Symbol) → slice_get out.symbols j ≡ Some a → slice_get out.symbols k ≡ Some b → a.name ≡ b.name → j ≡ k
   pub defined : (j k : ℕ) (a b : abs.Symbol) → slice_get out.symbols j ≡ Some a → slice_get out.symbols k ≡ Some b → Names k a.body → b.body ≢ Declared
   pub contents : (modules : List Source) (owner k : ℕ) (a : Symbol) (b : abs.Symbol) (pieces : List DataPiece)
       → Join modules → slice_get modules owner ≡ Some source → slice_get (symbols.symbols source) k ≡ Some a → slice_get out.symbols k ≡ Some b → b.body ≡ Data pieces

@@ -2,6 +2,10 @@
 use Rattle.std.proofs.Common.{◌≡◌, ◌≢◌, ◌≤◌, ℕ, ◌+◌, true, List, ◌∷◌, ◌++◌, map, Option, Some, None, Result, Ok, refl, sym, ◌∙◌, ap, subst}
 use Rattle.std.specs.Prelude.{IsSomeAnd}
 use Rattle.p9_agree.specs.Depth.{IsNotDeep}
+use Rattle.p9_asm.specs.declared.fault.AsmFault.{AsmFault}
+use Rattle.p9_asm.specs.declared.fault.AsmFault.TheVariants as assembly
+use Rattle.p9_lex.specs.declared.token.LexFault.{LexFault}
+use Rattle.p9_lex.specs.declared.token.LexFault.TheVariants as lexing
 use Rattle.p9_base.specs.CallBytes.{IsSteady, brought_in, written_in}
 use Rattle.p9_base.specs.Calls.{Call, OnFiles, OnStream, StreamCall, StreamsDid, Did}
 use Rattle.p9_base.specs.Core.{Core}
@@ -29,7 +33,7 @@ use Rattle.p9_suite.proofs.RunCases.{LinkCase, not_linked, ran_out, not_written,
 use Rattle.p9_suite.proofs.HeadlineClause.{modules_sources}
 use Rattle.p9_suite.proofs.Meaning.{Meaning, told_by}
 use Rattle.p9_suite.proofs.Ran as runs
-use Rattle.p9_suite.specs.Answers.{refusal_status, link_status, executable_status}
+use Rattle.p9_suite.specs.Answers.{refusal_status, link_status, executable_status, lex_status, assembly_status}
 use Rattle.p9_suite.specs.Scene.{Scene, IsAnswer, has_run}
 use Rattle.p9_suite.specs.Simulation.{IsRunBy, exit_answer, answer_by, answer_at}
 use Rattle.p9_suite.specs.Suite.{Answered, Comes, CommandComes, answer_of, command}
@@ -38,7 +42,7 @@ use Rattle.p9_suite.specs.commands.Run.{DoNothingUndefined, HaveEnded, OfForm, F
 use Rattle.p9_suite.specs.declared.answer.Answer.{Answer}
 use Rattle.p9_suite.specs.declared.answer.Answer.TheVariants.{Refused}
 use Rattle.p9_suite.specs.declared.answer.Refusal.{Refusal}
-use Rattle.p9_suite.specs.declared.answer.Refusal.TheVariants.{Absent, StoreFault, NotBuilt, Link, Executable, Memory}
+use Rattle.p9_suite.specs.declared.answer.Refusal.TheVariants.{Assembly, Absent, StoreFault, NotBuilt, Link, Executable, Memory}
 use Rattle.p9_aout.specs.declared.format.AoutFault.{AoutFault}
 use Rattle.p9_aout.specs.declared.format.AoutFault.TheVariants as executables
 use Rattle.p9_names.specs.declared.table.LinkFault.{LinkFault}
@@ -60,10 +64,26 @@ no_executable_run (executables.ShortFile need) e = cc
 no_executable_run executables.BadSegment e = cc
 no_executable_run executables.Memory e = cc
 
+no_lex_run : (why : LexFault) → has_run (lex_status why) ≡ true → ⊥
+no_lex_run (lexing.BadByte at line) e = cc
+no_lex_run (lexing.OpenComment at line) e = cc
+no_lex_run (lexing.OpenText at line) e = cc
+no_lex_run (lexing.WideNumber at line) e = cc
+no_lex_run lexing.Memory e = cc
+
+no_assembly_run : (why : AsmFault) → has_run (assembly_status why) ≡ true → ⊥
+no_assembly_run (assembly.Lex why) e = no_lex_run why e
+no_assembly_run (assembly.AsmSyntax line) e = cc
+no_assembly_run (assembly.Reserved line register) e = cc
+no_assembly_run (assembly.NoLabel line name) e = cc
+no_assembly_run (assembly.LabelTwice line name) e = cc
+no_assembly_run assembly.Memory e = cc
+
 no_refusal_run : (why : Refusal) → has_run (refusal_status why) ≡ true → ⊥
 no_refusal_run (Absent name) e = cc
 no_refusal_run (StoreFault name) e = cc
 no_refusal_run (NotBuilt name) e = cc
+no_refusal_run (Assembly name why) e = no_assembly_run why e
 no_refusal_run (Link why) e = no_link_run why e
 no_refusal_run (Executable name why) e = no_executable_run why e
 no_refusal_run Memory e = cc

@@ -13,8 +13,8 @@ use Rattle.p9_form.specs.Spelling.{HasForm, HasNoForm}
 use Rattle.p9_suite.proofs.StageLemmas.{store_refused, store_went_on}
 use Rattle.p9_suite.specs.declared.answer.Refusal.{Refusal}
 use Rattle.p9_suite.specs.declared.answer.Refusal.TheVariants.{NotBuilt, Memory}
-use Rattle.p9_suite.specs.Stages.{MakesOnStore, Then, goes_on}
-use Rattle.p9_suite.specs.commands.Run.{Gives, ReadsForm, ReadsForms, TakesForm, taken, formless, take_no_memory}
+use Rattle.p9_suite.specs.Stages.{Gives, MakesOnStore, Then, goes_on}
+use Rattle.p9_suite.specs.commands.Run.{ReadsForm, ReadsForms, TakesForm, taken, formless, take_no_memory}
 
 -- files in front of those that a stage gives
 abbrev pub added : List File → Result (List File) Refusal → Result (List File) Refusal

@@ -7,6 +7,8 @@ pub mod Telling
 pub mod Calls
 pub mod Tidy
 pub mod ViCases
+pub mod Assembling
+pub mod VaCases
 pub mod RunCases
 pub mod Ran
 pub mod Shapes
@@ -15,6 +17,7 @@ pub mod Meaning
 pub mod Exclusion
 pub mod Told
 pub mod ViClause
+pub mod VaClause
 pub mod RunClause
 pub mod HeadlineClause
 pub mod FormClause

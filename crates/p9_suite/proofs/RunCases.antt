@@ -13,9 +13,9 @@ use Rattle.p9_suite.proofs.Tidy.{OnlyReads, then_reads, file_reads, Tidy, reads_
 use Rattle.p9_suite.specs.Answers.{status}
 use Rattle.p9_suite.specs.Scene.{names_written}
 use Rattle.p9_suite.specs.Simulation.{Simulates, RunsFile}
-use Rattle.p9_suite.specs.Stages.{Then, stops, goes_on, OnStreams, ReadsFile, WritesFile, written, write_fault, write_no_memory, output_no_memory, loaded, unloaded, load_no_memory}
+use Rattle.p9_suite.specs.Stages.{Gives, Then, stops, goes_on, OnStreams, ReadsFile, WritesFile, written, write_fault, write_no_memory, output_no_memory, loaded, unloaded, load_no_memory}
 use Rattle.p9_suite.specs.Suite.{answer_of}
-use Rattle.p9_suite.specs.commands.Run.{Run, TakesForm, taken, formless, take_no_memory, ReadsForm, ReadsForms, Gives, IsProgram, compiled, unlinked, link_no_memory, WritesAndRuns, LinksAndRuns, RunStages}
+use Rattle.p9_suite.specs.commands.Run.{Run, TakesForm, taken, formless, take_no_memory, ReadsForm, ReadsForms, IsProgram, compiled, unlinked, link_no_memory, WritesAndRuns, LinksAndRuns, RunStages}
 use Rattle.p9_suite.specs.declared.answer.Answer.{Answer}
 use Rattle.p9_suite.specs.declared.answer.Refusal.{Refusal}
 use Rattle.p9_suite.specs.declared.answer.Refusal.TheVariants.{StoreFault, Link, Memory}

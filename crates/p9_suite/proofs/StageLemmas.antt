@@ -27,6 +27,14 @@ store_went_on does f g h first next value result (xs, d, s) (ys, e, t) = (xs ++ 
 pub store_last : {F A B : Type 0} (does : F → FileCall → F → Type 0) (f g : F) (first : Stage FileCall A) (next : A → Stage FileCall B) (value : A) (result : Result B Refusal) → MakesOnStore does f g first (Ok value) → next value result [] → MakesOnStore does f g (Then first next) result
 store_last does f g first next value result m t = store_went_on does f g g first next value result m ([], refl, t)
 
+-- a stage without calls in front
+
+pub store_here_refused : {F A B : Type 0} (does : F → FileCall → F → Type 0) (f : F) (first : Stage FileCall A) (next : A → Stage FileCall B) (why : Refusal) → first (Err why) [] → MakesOnStore does f f (Then first next) (Err why)
+store_here_refused does f first next why s = ([], refl, stops why [] s)
+
+pub store_here_went_on : {F A B : Type 0} (does : F → FileCall → F → Type 0) (f g : F) (first : Stage FileCall A) (next : A → Stage FileCall B) (value : A) (result : Result B Refusal) → first (Ok value) [] → MakesOnStore does f g (next value) result → MakesOnStore does f g (Then first next) result
+store_here_went_on does f g first next value result s (calls, d, t) = (calls, d, goes_on value result [] calls s t)
+
 -- Among all calls
 
 module _ {I O F : Type 0} (takes : I → TakeCall → I → Type 0) (puts : O → PutCall → O → Type 0) (stores : F → FileCall → F → Type 0) where
@@ -46,6 +54,9 @@ module _ {I O F : Type 0} (takes : I → TakeCall → I → Type 0) (puts : O �
 
   pub on_streams : {A : Type 0} (i : I) (o : O) (j : I) (p : O) (f : F) (stage : Stage StreamCall A) (result : Result A Refusal) → MakesOnStreams takes puts i o j p stage result → Makes (doing takes puts stores) (objects i o f) (objects j p f) (OnStreams stage) result
   on_streams i o j p f stage result (own, d, s) = (map OnStream own, Did-streams (doing takes puts stores) own i o j p f d, (own, refl, s))
+
+  pub on_store : {A : Type 0} (i : I) (o : O) (f g : F) (stage : Stage FileCall A) (result : Result A Refusal) → MakesOnStore stores f g stage result → Makes (doing takes puts stores) (objects i o f) (objects i o g) (OnStore stage) result
+  on_store i o f g stage result (own, d, s) = (map OnFiles own, did_files i o f g own d, (own, refl, s))
 
   -- a stage without calls in front
 

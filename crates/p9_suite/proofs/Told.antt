@@ -13,10 +13,10 @@ use Rattle.p9_suite.proofs.Ran as runs
 use Rattle.p9_suite.specs.Answers.{refusal_status}
 use Rattle.p9_suite.specs.Scene.{Scene, IsAnswer, held}
 use Rattle.p9_suite.specs.Simulation.{Simulates, stopped, read_failed, write_failed}
-use Rattle.p9_suite.specs.Stages.{Then, stops, goes_on, ReadsFile, found, absent, read_fault, read_no_memory, name_no_memory}
+use Rattle.p9_suite.specs.Stages.{Gives, Then, stops, goes_on, ReadsFile, found, absent, read_fault, read_no_memory, name_no_memory}
 use Rattle.p9_suite.specs.Suite.{answer_of}
 use Rattle.p9_suite.specs.Told.{OfRun}
-use Rattle.p9_suite.specs.commands.Run.{TakesForm, taken, formless, take_no_memory, ReadsForm, ReadsForms, Gives, AreFiles, IsFirst, IsAbsent, IsFormless}
+use Rattle.p9_suite.specs.commands.Run.{TakesForm, taken, formless, take_no_memory, ReadsForm, ReadsForms, AreFiles, IsFirst, IsAbsent, IsFormless}
 use Rattle.p9_suite.specs.declared.answer.Answer.{Answer}
 use Rattle.p9_suite.specs.declared.answer.Refusal.{Refusal}
 use Rattle.p9_suite.specs.declared.answer.Refusal.TheVariants.{Absent, NotBuilt}

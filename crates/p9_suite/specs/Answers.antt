@@ -4,8 +4,12 @@ use Rattle.std.specs.Int.{w32, to_be_bytes}
 use Rattle.hex.specs.Hex.{encode_lower}
 use Rattle.p9_aout.specs.declared.format.AoutFault.{AoutFault}
 use Rattle.p9_aout.specs.declared.format.AoutFault.TheVariants as executables
+use Rattle.p9_asm.specs.declared.fault.AsmFault.{AsmFault}
+use Rattle.p9_asm.specs.declared.fault.AsmFault.TheVariants as assembly
 use Rattle.p9_base.specs.declared.halt.HaltCause.{HaltCause}
 use Rattle.p9_base.specs.declared.halt.HaltCause.TheVariants as halts
+use Rattle.p9_lex.specs.declared.token.LexFault.{LexFault}
+use Rattle.p9_lex.specs.declared.token.LexFault.TheVariants as lexing
 use Rattle.p9_names.specs.declared.table.LinkFault.{LinkFault}
 use Rattle.p9_names.specs.declared.table.LinkFault.TheVariants as links
 use Rattle.p9_suite.specs.declared.answer.Answer.{Answer}
@@ -13,7 +17,7 @@ use Rattle.p9_suite.specs.declared.answer.Answer.TheVariants.{Done, Usage, Refus
 use Rattle.p9_suite.specs.declared.answer.End.{End}
 use Rattle.p9_suite.specs.declared.answer.End.TheVariants.{Exit, ReadFault, WriteFault, Halted, Spent}
 use Rattle.p9_suite.specs.declared.answer.Refusal.{Refusal}
-use Rattle.p9_suite.specs.declared.answer.Refusal.TheVariants.{Absent, StoreFault, NotBuilt, Link, Executable, Memory}
+use Rattle.p9_suite.specs.declared.answer.Refusal.TheVariants.{Absent, StoreFault, NotBuilt, Assembly, Link, Executable, Memory}
 
 -- Statuses
 
@@ -31,7 +35,23 @@ executable_status (executables.ShortFile need) = 13
 executable_status executables.BadSegment = 13
 executable_status executables.Memory = 10
 
+abbrev pub lex_status : LexFault → ℕ
+lex_status (lexing.BadByte at line) = 3
+lex_status (lexing.OpenComment at line) = 3
+lex_status (lexing.OpenText at line) = 3
+lex_status (lexing.WideNumber at line) = 3
+lex_status lexing.Memory = 10
+
+abbrev pub assembly_status : AsmFault → ℕ
+assembly_status (assembly.Lex why) = lex_status why
+assembly_status (assembly.AsmSyntax line) = 3
+assembly_status (assembly.Reserved line register) = 3
+assembly_status (assembly.NoLabel line name) = 3
+assembly_status (assembly.LabelTwice line name) = 3
+assembly_status assembly.Memory = 10
+
 abbrev pub refusal_status : Refusal → ℕ
+refusal_status (Assembly file why) = assembly_status why
 refusal_status (Link why) = link_status why
 refusal_status (Absent file) = 6
 refusal_status (StoreFault file) = 9
@@ -95,7 +115,27 @@ executable_line file (executables.ShortFile need) = file ++ (codes ": 51 ShortFi
 executable_line file executables.BadSegment = file ++ (codes ": 52 BadSegment" ++ newline)
 executable_line file executables.Memory = no_memory
 
+-- a line of a source file
+abbrev pub place : (file : List ℕ) (line : ℕ) → List ℕ
+place file line = file ++ (codes ":" ++ decimal line)
+
+abbrev pub lex_line : (file : List ℕ) → LexFault → List ℕ
+lex_line file (lexing.BadByte at line) = place file line ++ (codes ": 1 BadByte " ++ (decimal at ++ newline))
+lex_line file (lexing.OpenComment at line) = place file line ++ (codes ": 2 OpenComment " ++ (decimal at ++ newline))
+lex_line file (lexing.OpenText at line) = place file line ++ (codes ": 3 OpenText " ++ (decimal at ++ newline))
+lex_line file (lexing.WideNumber at line) = place file line ++ (codes ": 4 WideNumber " ++ (decimal at ++ newline))
+lex_line file lexing.Memory = no_memory
+
+abbrev pub assembly_line : (file : List ℕ) → AsmFault → List ℕ
+assembly_line file (assembly.Lex why) = lex_line file why
+assembly_line file (assembly.AsmSyntax line) = place file line ++ (codes ": 32 AsmSyntax" ++ newline)
+assembly_line file (assembly.Reserved line register) = place file line ++ (codes ": 33 Reserved " ++ (decimal register ++ newline))
+assembly_line file (assembly.NoLabel line name) = place file line ++ (codes ": 34 NoLabel " ++ (name ++ newline))
+assembly_line file (assembly.LabelTwice line name) = place file line ++ (codes ": 35 LabelTwice " ++ (name ++ newline))
+assembly_line file assembly.Memory = no_memory
+
 abbrev pub refusal_line : Refusal → List ℕ
+refusal_line (Assembly file why) = assembly_line file why
 refusal_line (Link why) = link_line why
 refusal_line (Absent file) = file ++ (codes ": absent" ++ newline)
 refusal_line (StoreFault file) = file ++ (codes ": store fault" ++ newline)

@@ -20,6 +20,10 @@ pub data Then {C A B : Type 0} (first : Stage C A) (next : A → Stage C B) : Re
   goes_on : (value : A) (result : Result B Refusal) (front behind : List C) →
       first (Ok value) front → next value result behind → Then first next result (front ++ behind)
 
+-- a value without calls
+abbrev pub Gives : {C A : Type 0} → A → Stage C A
+Gives value result calls = (result ≡ Ok value) × (calls ≡ [])
+
 -- a stage that makes its calls on the store alone, or on the source and the sink alone, among the others
 abbrev pub OnStore : {A : Type 0} → Stage FileCall A → Stage Call A
 OnStore stage result calls = (own : List FileCall) × (calls ≡ map OnFiles own) × stage result own

@@ -1,6 +1,7 @@
 // What a command answers.
 use crate::message::Message;
 use p9_aout::AoutFault;
+use p9_asm::AsmFault;
 use p9_base::{HaltCause, Name, NoMemory};
 use p9_names::LinkFault;
 
@@ -26,6 +27,8 @@ pub enum Refusal {
     StoreFault(Name),
     /// This file hasn't the form that is compiled.
     NotBuilt(Name),
+    /// This assembler file is refused.
+    Assembly(Name, AsmFault),
     /// The modules don't join.
     Link(LinkFault),
     /// This file is no executable.

@@ -5,10 +5,12 @@ ghost use Rattle.p9_suite.specs.Stages.{Makes};
 ghost use Rattle.p9_suite.specs.commands.{command_of, command_seen, stages};
 
 mod run;
+mod va;
 mod vi;
 
 use crate::answer::{Answer, Refusal};
 use crate::commands::run::{Run, compile_and_run, run_of};
+use crate::commands::va::{Va, assemble_file, va_of};
 use crate::commands::vi::{Vi, read_and_run, vi_of};
 use p9_base::{Files, Sink, Source, Words};
 use std::alloc::Global;
@@ -17,6 +19,7 @@ use std::alloc::Global;
 pub(crate) enum Command<'a> {
     Run(Run<'a>),
     Vi(Vi<'a>),
+    Va(Va<'a>),
 }
 
 /// The command of the words.
@@ -33,6 +36,11 @@ pub(crate) fn command_of(words: &Words) -> Option<Command<'_>>
             } else if name.list.as_slice() == b"vi".as_slice() {
                 match vi_of(others) {
                     Some(vi) => Some(Command::Vi(vi)),
+                    None => None,
+                }
+            } else if name.list.as_slice() == b"va".as_slice() {
+                match va_of(others) {
+                    Some(va) => Some(Command::Va(va)),
                     None => None,
                 }
             } else {
@@ -59,5 +67,6 @@ pub(crate) fn perform<I: Source, O: Sink, F: Files>(
             alloc, run.files, run.output, run.budget, input, out, files,
         ),
         Command::Vi(vi) => read_and_run(alloc, vi.file, vi.budget, input, out, files),
+        Command::Va(va) => assemble_file(alloc, va, files),
     }
 }

@@ -9,6 +9,7 @@ mod message;
 mod number;
 mod put;
 mod report;
+mod source;
 mod stages;
 #[cfg(test)]
 mod tests;

@@ -6,6 +6,7 @@ ghost use Rattle.p9_suite.specs.Reports.{Whole, Cut, Tells};
 use crate::answer::{Answer, End, Refusal};
 use crate::halt::put_halt;
 use crate::put::{put_all, put_both, put_number, put_number_line};
+use crate::source::{assembly_status, put_assembly};
 use p9_aout::AoutFault;
 use p9_base::Sink;
 use p9_names::LinkFault;
@@ -140,6 +141,7 @@ fn put_refusal<S: Sink>(sink: &mut S, why: &Refusal) -> bool
         Refusal::Absent(file) => put_both(sink, &file.list, b": absent\n"),
         Refusal::StoreFault(file) => put_both(sink, &file.list, b": store fault\n"),
         Refusal::NotBuilt(file) => put_both(sink, &file.list, b": not built\n"),
+        Refusal::Assembly(file, fault) => put_assembly(sink, &file.list, fault),
         Refusal::Link(fault) => put_link(sink, fault),
         Refusal::Executable(file, fault) => put_executable(sink, &file.list, *fault),
         Refusal::Memory => put_all(sink, b"no memory\n"),
@@ -213,6 +215,7 @@ fn refusal_status(why: &Refusal) -> u8
     ensures { result ≡ refusal_status why.now }
 {
     match why {
+        Refusal::Assembly(_, fault) => assembly_status(fault),
         Refusal::Link(fault) => link_status(fault),
         Refusal::Absent(_) => 6,
         Refusal::StoreFault(_) => 9,

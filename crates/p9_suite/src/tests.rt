@@ -1,4 +1,6 @@
 // Commands over memory.
+mod objects;
+
 use crate::suite;
 use p9_base::{Bytes, Calls, Files, Got, MemFiles, MemSink, MemSource, Words};
 use std::alloc::{AllocError, Global};

@@ -1,6 +1,9 @@
 // Words of a command line that name files.
-ghost use Rattle.std.specs.Prelude.{◌≡◌};
-ghost use Rattle.p9_suite.specs.CommandLine.{is_file, is_source};
+ghost use Rattle.std.specs.Prelude.{◌≡◌, IfOk};
+ghost use Rattle.p9_suite.specs.CommandLine.{is_assembly, is_file, is_source, object_name};
+
+use p9_base::{Bytes, NoMemory};
+use std::alloc::Global;
 
 /// Whether a word names a file.
 pub(crate) fn is_file(word: &[u8]) -> bool
@@ -14,4 +17,21 @@ pub(crate) fn is_source(word: &[u8]) -> bool
     ensures { result ≡ is_source word.now }
 {
     word.ends_with(b".c") && !word.starts_with(b"-")
+}
+
+/// Whether a word names an assembler file.
+pub(crate) fn is_assembly(word: &[u8]) -> bool
+    ensures { result ≡ is_assembly word.now }
+{
+    word.ends_with(b".s") && !word.starts_with(b"-")
+}
+
+/// The name of an assembler file's object, where the words give none.
+pub(crate) fn object_name(alloc: Global, file: &[u8]) -> Result<Bytes, NoMemory>
+    ensures { IfOk result (λ name. name ≡ object_name file.now) }
+{
+    let stem = &file[..file.len().saturating_sub(2)];
+    let mut list = stem.to_vec(alloc)?;
+    list.extend_from_slice(b".v")?;
+    Ok(Bytes { list })
 }

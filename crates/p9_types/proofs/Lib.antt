@@ -8,3 +8,14 @@ mod Advancing
 mod TagsAt
 mod Laid
 mod SampleTypes
+mod Tallies
+mod Descent
+mod Pruning
+mod Searching
+mod Entries
+mod Placings
+mod Unnamed
+mod NamedMembers
+mod Loops
+mod Comparing
+mod WrittenMembers

@@ -1,7 +1,7 @@
 -- Structures that tests are run on.
 use Rattle.std.specs.Prelude.{Bool, false, [], ◌∷◌, Some, codes}
-use Rattle.p9_lang.specs.Types.{Char, Short, Int, TagTree, Tags}
-use Rattle.p9_lang.specs.LayoutExamples.{of}
+use Rattle.p9_lang.specs.Types.{Char, Short, Int, Tagged, TagTree, Tags}
+use Rattle.p9_lang.specs.LayoutExamples.{of, structure}
 
 -- struct { char c; int n; short s; }, or a union of these
 abbrev pub sample_tag : (is_union : Bool) → TagTree
@@ -9,3 +9,14 @@ sample_tag is_union = record { is_union = is_union; name = []; members = Some (o
 
 abbrev pub sample : (is_union : Bool) → Tags
 sample is_union = sample_tag is_union ∷ []
+
+-- struct A { int k; }; struct B { int k; }; struct C { struct A; struct B; };
+
+abbrev pub innermost_tag : TagTree
+innermost_tag = structure [] (of (codes "k") Int ∷ [])
+
+abbrev pub enclosing_tag : TagTree
+enclosing_tag = structure [] (of [] (Tagged 0) ∷ of [] (Tagged 1) ∷ [])
+
+abbrev pub nested : Tags
+nested = innermost_tag ∷ innermost_tag ∷ enclosing_tag ∷ []

@@ -2,4 +2,12 @@ pub mod Capping
 pub mod Told
 pub mod Reaching
 pub mod Tasks
+pub mod Levels
+pub mod Sightings
+pub mod Standings
+pub mod FoundMembers
+pub mod Sizes
+pub mod Heads
+pub mod Pairs
+pub mod Converted
 pub mod Examples

@@ -17,7 +17,7 @@ pub(crate) struct Elements<'a> {
 }
 
 #[tactic(auto, using(crate::proofs::Shapes::shapes))]
-fn array_elements(ty: &CType) -> Option<Elements<'_>>
+pub(crate) fn array_elements(ty: &CType) -> Option<Elements<'_>>
     ensures { MatchOption result (is_array (type_of ty.now) ≡ false) (λ e.
         type_of ty.now ≡ Array (type_of e.ty.now) e.count) }
 {

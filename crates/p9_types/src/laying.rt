@@ -6,8 +6,9 @@ ghost use Rattle.p9_lang.specs.TagRules.{NoneContainsItself};
 ghost use Rattle.p9_types.specs.declared.fault.TypeFault.TheVariants.{Incomplete, BadConstant};
 
 use crate::fault::TypeFault;
+use crate::known::KnownTags;
 use crate::layouts::Layout;
-use crate::reaching::known_within;
+use crate::reaching::extent_within;
 use p9_lang::{CType, Tags};
 use std::alloc::Global;
 
@@ -25,8 +26,8 @@ pub fn layout(alloc: Global, ty: &CType, tags: &Tags) -> Result<Layout, TypeFaul
     ensures too_large { result ≡ Err BadConstant
         → IsSomeAnd (layout (tags_of tags.now.list) (type_of ty.now)) (λ e. size_limit < e.size) }
 {
-    let known = known_within(alloc, ty, tags.list.as_slice())?;
-    match known.extent_of(ty) {
+    let mut known = KnownTags::new(alloc);
+    match extent_within(alloc, &mut known, ty, tags.list.as_slice())? {
         None => Err(TypeFault::Incomplete),
         Some(extent) => {
             if extent.size > LIMIT {

@@ -2,7 +2,7 @@
 ghost use Rattle.std.specs.Prelude.{◌≡◌, ◌∷◌, ◌++◌, [], ℕ, OnOk, IfOk, IsTrue, Some, None, MatchOption, slice_get};
 ghost use Rattle.p9_lang.specs.Types.{type_of, members_of, tag_of, tags_of};
 ghost use Rattle.p9_lang.specs.TagRules.{NoneContainsItself};
-ghost use Rattle.p9_lang.specs.Layout.{body_extent};
+ghost use Rattle.p9_lang.specs.Layout.{body_extent, layout};
 ghost use Rattle.p9_types.specs.Capping.{Alike};
 ghost use Rattle.p9_types.specs.Reaching.{inner_of, inner_of_members, inner_tags};
 ghost use Rattle.p9_types.specs.Told.{IsSound, is_known, told_option, known_extent};
@@ -23,7 +23,7 @@ pub(crate) enum Task {
     Finish(u32),
 }
 
-fn tag_at(tags: &[Tag], number: u32) -> Option<&Tag>
+pub(crate) fn tag_at(tags: &[Tag], number: u32) -> Option<&Tag>
     ensures { MatchOption result (slice_get (tags_of tags.now) number ≡ None) (λ tag.
         slice_get (tags_of tags.now) number ≡ Some (tag_of tag.now)) }
 {
@@ -116,18 +116,40 @@ fn take_task(
     }
 }
 
-/// The extents of the structures that an object of the type is or contains.
-pub(crate) fn known_within(alloc: Global, ty: &CType, tags: &[Tag]) -> Result<KnownTags, NoMemory>
-    requires { NoneContainsItself (tags_of tags.now) }
-    ensures sound { IfOk result (λ known. IsSound (tags_of tags.now) known.map.entries) }
-    ensures known { IfOk result (λ known. AreAll (λ i. IsTrue (is_known known.map.entries i))
+/// Learns the extents of the structures that an object of the type is or contains.
+fn learn_within(
+    alloc: Global,
+    known: &mut KnownTags,
+    ty: &CType,
+    tags: &[Tag],
+) -> Result<(), NoMemory>
+    requires ends { NoneContainsItself (tags_of tags.now) }
+    requires sound { IsSound (tags_of tags.now) known.old.map.entries }
+    ensures sound { OnOk result (IsSound (tags_of tags.now) known.new.map.entries) }
+    ensures known { OnOk result (AreAll (λ i. IsTrue (is_known known.new.map.entries i))
         (inner_of (type_of ty.now))) }
 {
-    let mut known = KnownTags::new(alloc);
     let mut tasks = Vec::new(alloc);
     push_visit(&mut tasks, ty)?;
     'inwards: while let Some(task) = tasks.pop() {
-        take_task(&mut known, &mut tasks, task, tags)?;
+        take_task(known, &mut tasks, task, tags)?;
     }
-    Ok(known)
+    Ok(())
+}
+
+/// The extent of a type, if it is complete. What it needs of structures is learnt.
+pub(crate) fn extent_within(
+    alloc: Global,
+    known: &mut KnownTags,
+    ty: &CType,
+    tags: &[Tag],
+) -> Result<Option<Capped>, NoMemory>
+    requires ends { NoneContainsItself (tags_of tags.now) }
+    requires sound { IsSound (tags_of tags.now) known.old.map.entries }
+    ensures sound { OnOk result (IsSound (tags_of tags.now) known.new.map.entries) }
+    ensures extent { IfOk result (λ e.
+        Alike (told_option e) (layout (tags_of tags.now) (type_of ty.now))) }
+{
+    learn_within(alloc, known, ty, tags)?;
+    Ok(known.extent_of(ty))
 }

@@ -34,7 +34,7 @@ use Rattle.p9_suite.specs.declared.commands.run.request.Run as declared
 use Rattle.p9_suite.specs.CommandLine.{is_source}
 use Rattle.p9_suite.specs.Scene.{Scene, IsAnswer, HasPut, held, held_now, left, left_now, has_run}
 use Rattle.p9_suite.specs.Simulation.{RunsFile, IsRunBy, exit_answer}
-use Rattle.p9_suite.specs.Stages.{Stage, Then, OnStore, OnStreams, ReadsFile, WritesFile}
+use Rattle.p9_suite.specs.Stages.{Stage, Then, Gives, OnStore, OnStreams, ReadsFile, WritesFile}
 use Rattle.p9_suite.specs.Told.{OfRun}
 
 -- The words
@@ -65,9 +65,6 @@ pub data TakesForm {C : Type 0} (name bytes : List ℕ) : Result File Refusal �
 
 abbrev pub ReadsForm : (name : List ℕ) → Stage FileCall File
 ReadsForm name = Then (ReadsFile name) (TakesForm name)
-
-abbrev pub Gives : {C A : Type 0} → A → Stage C A
-Gives value result calls = (result ≡ Ok value) × (calls ≡ [])
 
 -- the files at the names, one after the other
 abbrev pub ReadsForms : (names : List (List ℕ)) → Stage FileCall (List File)

@@ -1,0 +1,17 @@
+//! The assembler: the module of a text, or why the text is refused.
+#![tactic(auto)]
+
+mod assembler;
+mod breaks;
+mod code;
+mod fault;
+mod pieces;
+mod shown;
+mod symbols;
+mod tables;
+#[cfg(test)]
+mod tests;
+mod unfinished;
+
+pub use assembler::assemble;
+pub use fault::AsmFault;

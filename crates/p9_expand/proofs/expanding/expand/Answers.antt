@@ -1,0 +1,14 @@
+use Rattle.p9_expand.proofs.Answering.{targets_had, targets_are_lines, marks_right, words_within, if-lines}
+use Rattle.p9_expand.proofs.expanding.expand.Goals as goal
+
+pub returns-clause-targets : goal.returns-clause-targets
+returns-clause-targets c = if-lines _ _ (λ lines e. targets_had c.args.modules.now.items lines c.requires.valid e) c.expanded.result c.expanded.ensures.lines
+
+pub returns-clause-aims : goal.returns-clause-aims
+returns-clause-aims c = if-lines _ _ (λ lines e. targets_are_lines c.args.modules.now.items lines c.requires.valid e) c.expanded.result c.expanded.ensures.lines
+
+pub returns-clause-marks : goal.returns-clause-marks
+returns-clause-marks c = if-lines _ _ (λ lines e. marks_right c.args.modules.now.items lines e) c.expanded.result c.expanded.ensures.lines
+
+pub returns-clause-words : goal.returns-clause-words
+returns-clause-words c = if-lines _ _ (λ lines e. words_within c.args.modules.now.items lines e) c.expanded.result c.expanded.ensures.lines

@@ -1,0 +1,11 @@
+//! The bytes of a program's text, from its lines and the addresses of its symbols.
+#![tactic(auto)]
+
+mod filling;
+mod text;
+
+pub use filling::SymbolAddresses;
+pub use text::text_bytes;
+
+#[cfg(test)]
+mod tests;

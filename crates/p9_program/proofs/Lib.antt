@@ -1,0 +1,17 @@
+pub mod Lists
+pub mod Positions
+pub mod Joined
+pub mod Routines
+pub mod Objects
+pub mod Laying
+pub mod Data
+pub mod Functions
+pub mod Names
+pub mod Codes
+pub mod Memory
+pub mod Contents
+pub mod Words
+pub mod Beginning
+pub mod Whole
+pub mod Files
+pub mod Example

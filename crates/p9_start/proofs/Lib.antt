@@ -1,0 +1,4 @@
+pub mod Steps
+pub mod Exiting
+pub mod First
+pub mod Starting
