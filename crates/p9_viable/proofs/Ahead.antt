@@ -27,7 +27,7 @@ use Rattle.p9_grammar.specs.Promise.{IsRead}
 use Rattle.p9_grammar.proofs.Tells.{class_of}
 use Rattle.p9_grammar.proofs.Heads.{has_type-behind}
 use Rattle.p9_grammar.proofs.Moves.{is_after, dummy}
-use Rattle.p9_viable.proofs.Tame.{up}
+use Rattle.p9_viable.proofs.Calm.{up}
 
 abbrev pub rp : Terminal
 rp = t.Mark mark.CloseParen

@@ -15,7 +15,8 @@ use Rattle.p9_grammar.proofs.Moves.{Wants}
 use Rattle.p9_grammar.proofs.Tells.{class_of}
 use Rattle.p9_grammar.proofs.Sound.{Below, Stands, ValidAt, Keeps, run-keeps, reads-only-files}
 use Rattle.p9_viable.specs.Viable.{GoesOn}
-use Rattle.p9_viable.proofs.Tame.{up, waits_on, ground, tame, is_full, Sane, run-sane}
+use Rattle.p9_viable.proofs.Calm.{up}
+use Rattle.p9_viable.proofs.Tame.{waits_on, ground, tame, is_full, Sane, run-sane}
 use Rattle.p9_viable.proofs.Ahead.{tail_of, Finishes, Both, grow}
 use Rattle.p9_viable.proofs.Resting.{More, need, top}
 

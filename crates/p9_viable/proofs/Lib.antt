@@ -1,3 +1,4 @@
+pub mod Calm
 pub mod Tame
 pub mod Ahead
 pub mod Resting

@@ -27,7 +27,7 @@ use Rattle.std.proofs.lemmas.Bool.{false≢true}
 use Rattle.p9_grammar.proofs.Tells.{class_of}
 use Rattle.p9_grammar.proofs.Heads.{has_type-behind}
 use Rattle.p9_grammar.proofs.Sofar.{Open, Site}
-use Rattle.p9_viable.proofs.Tame.{waits}
+use Rattle.p9_viable.proofs.Calm.{waits}
 use Rattle.p9_viable.proofs.Ahead.{rp, lp, rb, lc, rc, sc, co, cm, zero_, name_, int_, while_, close, tail_of, is_rc, named_ender, ready_for, Finishes, Both, next_in, makes, over-if, IsExp, IsStmt, IsDir, IsAt, exp-ready, stmt-ready, entry-closer, over-goes, spec-ends, speaks, speaks-tag, speaks-enum, ender-by, Need, grow}
 
 pub record More (s : Stack) (scope : Scope) (at : ℕ) : Type 0 where
