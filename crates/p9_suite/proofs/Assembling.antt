@@ -1,5 +1,5 @@
 -- The stage that assembles.
-use Rattle.std.proofs.Common.{◌≡◌, ◌≢◌, ◌⊎◌, ℕ, List, [], Result, Ok, Err, inl, inr, refl, sym, subst}
+use Rattle.std.proofs.Common.{◌≡◌, ◌≢◌, ◌⊎◌, ℕ, List, [], Ok, Err, inl, inr, refl, sym, subst}
 use Rattle.p9_abs.specs.declared.modules.AModule.{AModule}
 use Rattle.p9_asm.specs.Assembled.{assembled, IsRefusal}
 use Rattle.p9_asm.specs.declared.fault.AsmFault.{AsmFault}

@@ -1,5 +1,5 @@
 -- The ways on which `va` comes to its result, each with its calls on the store.
-use Rattle.std.proofs.Common.{◌≡◌, ◌≢◌, ℕ, List, [], ◌∷◌, ◌++◌, map, Option, Result, Ok, Err, refl, sym, ap, ◌∙◌, subst}
+use Rattle.std.proofs.Common.{◌≡◌, ◌≢◌, ℕ, List, [], ◌∷◌, map, Option, Result, Ok, Err, refl, sym, subst}
 use Rattle.p9_abs.specs.declared.modules.AModule.{AModule}
 use Rattle.p9_asm.specs.Assembled.{assembled}
 use Rattle.p9_asm.specs.declared.fault.AsmFault.{AsmFault}
@@ -9,11 +9,11 @@ use Rattle.p9_base.specs.declared.outside.FileFault.TheVariants as store
 use Rattle.p9_base.specs.declared.outside.Got.TheVariants as got
 use Rattle.p9_object.specs.Fields.{spelling}
 use Rattle.p9_object.specs.Laws.{IsObject}
-use Rattle.p9_suite.proofs.Tidy.{OnlyReads, Tidy, file_reads, reads_tidy, no_usage, assembly_fine}
+use Rattle.p9_suite.proofs.Tidy.{Tidy, file_reads, reads_tidy, no_usage, assembly_fine}
 use Rattle.p9_suite.specs.Answers.{status}
 use Rattle.p9_suite.specs.Stages.{stops, goes_on, ReadsFile, found, WritesFile, written, write_fault, write_no_memory, output_no_memory}
 use Rattle.p9_suite.specs.Suite.{answer_of}
-use Rattle.p9_suite.specs.commands.Va.{Va, Assembles, assembles, refuses, assemble_no_memory, WritesObject, AssemblesFile}
+use Rattle.p9_suite.specs.commands.Va.{Va, assembles, refuses, assemble_no_memory, WritesObject, AssemblesFile}
 use Rattle.p9_suite.specs.declared.answer.Answer.{Answer}
 use Rattle.p9_suite.specs.declared.answer.Answer.TheVariants.{Done}
 use Rattle.p9_suite.specs.declared.answer.Refusal.{Refusal}

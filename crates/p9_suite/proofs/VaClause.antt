@@ -1,21 +1,19 @@
 -- The clause of `va`.
-use Rattle.std.proofs.Common.{◌≡◌, ◌≢◌, ℕ, List, [], ◌∷◌, map, Option, Some, Result, Ok, Err, refl, sym, ap, ◌∙◌, subst}
+use Rattle.std.proofs.Common.{◌≡◌, ◌≢◌, ℕ, List, [], ◌∷◌, Option, Some, Result, Ok, Err, refl, sym, ◌∙◌, subst}
 use Rattle.std.specs.Prelude.{IsSomeAnd}
 use Rattle.p9_abs.specs.declared.modules.AModule.{AModule}
 use Rattle.p9_asm.specs.Assembled.{assembled}
 use Rattle.p9_asm.specs.declared.fault.AsmFault.{AsmFault}
-use Rattle.p9_base.specs.Calls.{Call, OnFiles, Did}
-use Rattle.p9_base.specs.Outside.{Held, FileCall, ReadCall, WriteCall}
+use Rattle.p9_base.specs.Calls.{Call, Did}
+use Rattle.p9_base.specs.Outside.{Held, FileCall}
 use Rattle.p9_base.specs.Streams.{CallsDid}
-use Rattle.p9_base.specs.declared.outside.FileFault.TheVariants as store
-use Rattle.p9_base.specs.declared.outside.Got.TheVariants as got
 use Rattle.p9_object.specs.Fields.{spelling}
 use Rattle.p9_suite.proofs.Calls.{AllAgree, reads_agree, reads_keep, of_store, stands}
 use Rattle.p9_suite.proofs.Meaning.{Meaning}
 use Rattle.p9_suite.proofs.Tidy.{file_reads}
 use Rattle.p9_suite.proofs.Told.{if_held}
 use Rattle.p9_suite.proofs.VaCases.{text_read, VaCase, unread, refused, not_assembled, unwritten, done, va_case}
-use Rattle.p9_suite.specs.Scene.{Scene, IsAnswer, held, held_now}
+use Rattle.p9_suite.specs.Scene.{Scene, IsAnswer, held}
 use Rattle.p9_suite.specs.Stages.{ReadsFile, absent, read_fault, read_no_memory, name_no_memory, WritesFile, write_fault, write_no_memory, output_no_memory}
 use Rattle.p9_suite.specs.Suite.{Answered, Comes, CommandComes, answer_of, command}
 use Rattle.p9_suite.specs.commands.{Command, VaCommand}
