@@ -1,3 +1,5 @@
 pub mod Textless
 pub mod Growing
 pub mod Endless
+pub mod Heading
+pub mod Wholes
