@@ -19,15 +19,15 @@ use Rattle.p9_prefix.proofs.Wholes.{Arrives, arrives, run-append}
 use Rattle.p9_prefix.specs.Growth.{raised, joined, height_of, size_of, OnlyGrows}
 use Rattle.p9_prefix.proofs.Textless.{Bare, bare-node, bare-leaf, GoodMove, GoodAfter, GoodJoin, good-move, good-after, good-join}
 
-raised-le : (s : Stack) (a b : ℕ) → a ≤ b → raised s a ≤ raised s b
+pub raised-le : (s : Stack) (a b : ℕ) → a ≤ b → raised s a ≤ raised s b
 raised-le [] a b e = e
 raised-le (f ∷ s) a b e = raised-le s (suc (max (height_in f.parts) a)) (suc (max (height_in f.parts) b)) (omega arith)
 
-joined-le : (s : Stack) (a b : ℕ) → a ≤ b → joined s a ≤ joined s b
+pub joined-le : (s : Stack) (a b : ℕ) → a ≤ b → joined s a ≤ joined s b
 joined-le [] a b e = e
 joined-le (f ∷ s) a b e = joined-le s (suc (nodes_in f.parts + a)) (suc (nodes_in f.parts + b)) (omega arith)
 
-le-trans : (a b c : ℕ) → a ≤ b → b ≤ c → a ≤ c
+pub le-trans : (a b c : ℕ) → a ≤ b → b ≤ c → a ≤ c
 le-trans a b c p q = omega arith
 
 -- at least so many nodes and so high, with a part of this size and height
@@ -45,11 +45,11 @@ abbrev Rises : (k h : ℕ) → Option State → Type 0
 Rises k h None = ⊤
 Rises k h (Some st) = Reaches k h st.stack (size_of st.last) (height_of st.last) × BareLast st.last
 
-height-push : (ps : Trees) (n : Tree) → height_in (push ps n) ≡ max (height_in ps) (height n)
+pub height-push : (ps : Trees) (n : Tree) → height_in (push ps n) ≡ max (height_in ps) (height n)
 height-push none n = omega arith
 height-push (more m ms) n = let e : height_in (push ms n) ≡ max (height_in ms) (height n) = height-push ms n in omega arith
 
-nodes-push : (ps : Trees) (n : Tree) → nodes_in (push ps n) ≡ nodes_in ps + nodes n
+pub nodes-push : (ps : Trees) (n : Tree) → nodes_in (push ps n) ≡ nodes_in ps + nodes n
 nodes-push none n = omega arith
 nodes-push (more m ms) n = let e : nodes_in (push ms n) ≡ nodes_in ms + nodes n = nodes-push ms n in omega arith
 

@@ -3,3 +3,4 @@ pub mod Growing
 pub mod Endless
 pub mod Heading
 pub mod Wholes
+pub mod Closing

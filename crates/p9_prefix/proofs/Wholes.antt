@@ -15,7 +15,9 @@ use Rattle.p9_grammar.specs.Machine.{State, run, spec, step}
 use Rattle.p9_grammar.specs.Promise.{IsFile, file_scope, file_tokens}
 use Rattle.p9_grammar.proofs.Spelling.{spell-tokens, spells, spells-write}
 use Rattle.p9_grammar.proofs.Unique.{expression-read, expression_end, file-read, file_end}
-use Rattle.p9_prefix.specs.Goals.{Phrase, Expression, Declaration, Goal, File, One, head_symbols, IsDeclaration, IsWhole, BeginsWhole, HasEnded, names_behind, start, ReadsWholes, Refuses}
+use Rattle.p9_prefix.specs.declared.phrase.Phrase.{Phrase}
+use Rattle.p9_prefix.specs.declared.phrase.Phrase.TheVariants.{Expression, Declaration}
+use Rattle.p9_prefix.specs.Goals.{Goal, File, One, head_symbols, IsDeclaration, IsWhole, BeginsWhole, HasEnded, names_behind, start, ReadsWholes, Refuses}
 use Rattle.p9_prefix.specs.Growth.{raised, joined, height_of, size_of}
 use Rattle.p9_prefix.proofs.Heading.{declaration-read, head-read, done, ground, last_name, open_function}
 
@@ -51,7 +53,7 @@ expression-arrives : (n : Tree) (scope : Scope) (at : ℕ) → Formed expression
 expression-arrives n scope at h = record {
   st = expression_end n nothing (after n scope) at (suc (past n at));
   is = expression-read n scope at h;
-  ended = (nothing, refl);
+  ended = (at, nothing, refl);
   names = expression-names n scope at h;
   many = omega arith;
   high = omega arith;
@@ -83,6 +85,7 @@ head-arrives words token parts scope at e g h = record {
     ground at,
     refl,
     ap (λ x. record { head = head.HeadOver words; from = x; parts = parts; told = record { name = last_name parts; level = innermost (through (head_symbols words) parts scope) } } ∷ ground at ∷ []) (sym e),
+    refl,
   );
   names = refl;
   many = omega arith;

@@ -16,10 +16,8 @@ use Rattle.p9_grammar.specs.Scopes.{Scope, Told, after, through}
 use Rattle.p9_grammar.specs.Grammar.{Fills, Formed, IsSpec, tokens, write}
 use Rattle.p9_grammar.specs.Machine.{Frame, State, file_start, fresh, run, state}
 use Rattle.p9_grammar.specs.Promise.{IsFile, IsRead, file_tokens}
-
-pub data Phrase : Type 0 where
-  Expression : Phrase
-  Declaration : Phrase
+use Rattle.p9_prefix.specs.declared.phrase.Phrase.{Phrase}
+use Rattle.p9_prefix.specs.declared.phrase.Phrase.TheVariants.{Expression, Declaration}
 
 -- One phrase stands at a place, among names that are in scope.
 pub data Goal : Type 0 where
@@ -76,14 +74,14 @@ JustRead n st = (tl : Told) × (f : Frame) × (f.head ≡ head.GoalHead) × (st.
 -- behind a function's head the function is open
 abbrev pub IsOpen : Tree → State → Type 0
 IsOpen (node (kind.Function s) token parts) st =
-    (tl : Told) × (f : Frame) × (f.head ≡ head.GoalHead) × (st.stack ≡ record { head = head.HeadOver s.words; from = token; parts = parts; told = tl } ∷ f ∷ [])
+    (tl : Told) × (f : Frame) × (f.head ≡ head.GoalHead) × (st.stack ≡ record { head = head.HeadOver s.words; from = token; parts = parts; told = tl } ∷ f ∷ []) × (st.last ≡ None)
 IsOpen n st = ⊥
 
 -- The machine stands behind a whole with these parts.
 abbrev pub HasEnded : Goal → Trees → Option State → Type 0
 HasEnded File items r = IsRead items r
 HasEnded (One p scope at) ns None = ⊥
-HasEnded (One Expression scope at) ns (Some st) = (tl : Told) × (st.stack ≡ record { head = head.GoalOver; from = at; parts = ns; told = tl } ∷ [])
+HasEnded (One Expression scope at) ns (Some st) = (from : ℕ) × (tl : Told) × (st.stack ≡ record { head = head.GoalOver; from = from; parts = ns; told = tl } ∷ [])
 HasEnded (One Declaration scope at) (more n none) (Some st) = JustRead n st ⊎ IsOpen n st
 HasEnded (One Declaration scope at) ns (Some st) = ⊥
 

@@ -1,8 +1,9 @@
 -- How high a whole is at least, and how many nodes it has at least, by what is read of it.
 use Rattle.std.specs.Prelude.{◌≡◌, ℕ, suc, ◌+◌, ◌-◌, ◌≤◌, max, List, [], ◌∷◌, ◌++◌, Option, Some, None}
 use Rattle.p9_grammar.specs.declared.terminal.Terminal.{Terminal}
+use Rattle.p9_grammar.specs.declared.terminal.Terminal.TheVariants.{End}
 use Rattle.p9_grammar.specs.Trees.{Trees, height, height_in, nodes, nodes_in}
-use Rattle.p9_grammar.specs.Machine.{Stack, State, Read, run}
+use Rattle.p9_grammar.specs.Machine.{Stack, State, Read, run, step}
 use Rattle.p9_prefix.specs.Goals.{Goal, IsWhole, start}
 
 -- the height of the whole, where a part of this height stands in the innermost open node
@@ -35,3 +36,7 @@ abbrev pub OnlyGrows : Type 0
 OnlyGrows =
     (goal : Goal) (ns : Trees) (front rest : List Terminal) (st : State) → IsWhole goal ns (front ++ rest) → run (Some (start goal)) front ≡ Some st →
     (height_so_far st ≤ height_in ns) × (nodes_so_far st ≤ nodes_in ns)
+
+-- The end makes what is read no higher, and adds no nodes.
+abbrev pub EndAddsNothing : Type 0
+EndAddsNothing = (st new : State) → step st End ≡ Some new → (height_so_far new ≤ height_so_far st) × (nodes_so_far new ≤ nodes_so_far st)

@@ -3,7 +3,10 @@
 #![tactic(auto)]
 
 mod laws;
+mod phrase;
 
 pub use laws::{
-    files_end_once, machine_reads_wholes, machine_refuses_wholes_rightly, trees_only_grow,
+    end_adds_nothing, files_end_once, machine_reads_wholes, machine_refuses_wholes_rightly,
+    phrases_are_endless, trees_only_grow,
 };
+pub use phrase::Phrase;

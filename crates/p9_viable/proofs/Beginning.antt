@@ -20,7 +20,9 @@ use Rattle.p9_grammar.proofs.Sofar.{Open}
 use Rattle.p9_grammar.proofs.Tells.{class_of}
 use Rattle.p9_viable.proofs.Ended.{names_of, place_of, goal-keeps, reads-only-wholes}
 use Rattle.p9_grammar.proofs.Sound.{Below, Stands, ValidAt, ReadOk, InFrame, Keeps, run-keeps, reads-only-files}
-use Rattle.p9_prefix.specs.Goals.{Phrase, Expression, Declaration, Goal, File, One, bottom, start, HasEnded, IsWhole, BeginsWhole}
+use Rattle.p9_prefix.specs.declared.phrase.Phrase.{Phrase}
+use Rattle.p9_prefix.specs.declared.phrase.Phrase.TheVariants.{Expression, Declaration}
+use Rattle.p9_prefix.specs.Goals.{Goal, File, One, bottom, start, HasEnded, IsWhole, BeginsWhole}
 use Rattle.p9_prefix.proofs.Wholes.{run-append}
 use Rattle.p9_viable.specs.Viable.{GoesOn}
 use Rattle.p9_viable.proofs.Calm.{up}
@@ -45,7 +47,7 @@ bottom-by File head.FileOver from parts told g w e = absurd (false≢true w)
 bottom-by File _ from parts told g w e = absurd (false≢true g)
 bottom-by (One Expression names place) head.GoalExpression from parts told g w e = record {
   next = λ y. record { first = t.End; others = []; is = refl; ready = refl };
-  goes = λ n scope at. record { parts = push parts n.tree; ended = (told, ap (λ a. record { head = head.GoalOver; from = a; parts = push parts n.tree; told = told } ∷ []) e) };
+  goes = λ n scope at. record { parts = push parts n.tree; ended = (from, told, refl) };
 }
 bottom-by (One Expression names place) head.GoalRead from parts told g w e = absurd (false≢true w)
 bottom-by (One Expression names place) head.GoalOver from parts told g w e = absurd (false≢true w)
@@ -79,12 +81,12 @@ bottom-waits (One Expression names place) head.GoalExpression from parts told sc
   tokens = zero_ ∷ t.End ∷ [];
   finishes = record {
     parts = push parts (node (kind.Number 0 false false) at none);
-    ended = (told, ap (λ a. record { head = head.GoalOver; from = a; parts = push parts (node (kind.Number 0 false false) at none); told = told } ∷ []) e);
+    ended = (from, told, refl);
   };
 }
 bottom-waits (One Expression names place) head.GoalOver from parts told scope at g e = record {
   tokens = [];
-  finishes = record { parts = parts; ended = (told, ap (λ a. record { head = head.GoalOver; from = a; parts = parts; told = told } ∷ []) e) };
+  finishes = record { parts = parts; ended = (from, told, refl) };
 }
 bottom-waits (One Expression names place) _ from parts told scope at g e = absurd (false≢true g)
 bottom-waits (One Declaration names place) head.GoalHead from parts told scope at g e = record {
@@ -120,7 +122,7 @@ open-ends File words from parts told g scope at e q = absurd (false≢true (sym 
 open-ends (One Expression names place) words from parts told g scope at e q = absurd (false≢true (sym (ap (ground (One Expression names place)) q) ∙ e))
 open-ends (One Declaration names place) words from parts told g scope at e q = record {
   tokens = [];
-  finishes = record { parts = more (node (kind.Function (spec words)) from parts) none; ended = inr (told, g, q, refl) };
+  finishes = record { parts = more (node (kind.Function (spec words)) from parts) none; ended = inr (told, g, q, refl, refl) };
 }
 
 open-goes : (goal : Goal) (h : Head) (from : ℕ) (parts : Trees) (told : Told) (g : Frame) (s : Stack) (scope0 : Scope) (k : ℕ) → is_open_function h ≡ true → Open (class_of (g ∷ s)) scope0 h k → tame goal (g ∷ s) ≡ true →

@@ -17,7 +17,9 @@ use Rattle.p9_grammar.proofs.Along.{words-spec}
 use Rattle.p9_grammar.proofs.Moves.{at_token}
 use Rattle.p9_grammar.proofs.Sound.{Below, Stands, ValidAt, ReadOk, InFrame, Keeps, run-keeps, reads-only-files}
 use Rattle.p9_grammar.proofs.Tells.{class_of}
-use Rattle.p9_prefix.specs.Goals.{Phrase, Expression, Declaration, Goal, File, One, head_symbols, start, HasEnded, IsDeclaration, IsWhole, JustRead, IsOpen}
+use Rattle.p9_prefix.specs.declared.phrase.Phrase.{Phrase}
+use Rattle.p9_prefix.specs.declared.phrase.Phrase.TheVariants.{Expression, Declaration}
+use Rattle.p9_prefix.specs.Goals.{Goal, File, One, head_symbols, start, HasEnded, IsDeclaration, IsWhole, JustRead, IsOpen}
 use Rattle.p9_viable.specs.Viable.{ReadsOnlyWholes}
 
 -- where a goal begins
@@ -67,20 +69,20 @@ goal-begins (One Declaration scope at) = (
 
 -- an expression
 
-expression-ends : (names : Scope) (place : ℕ) (ns : Trees) (tl : Told) (ts : List Terminal) (s : Stack) (scope : Scope) (at : ℕ) (last : Option Read) → s ≡ record { head = head.GoalOver; from = place; parts = ns; told = tl } ∷ [] →
+expression-ends : (names : Scope) (place from : ℕ) (ns : Trees) (tl : Told) (ts : List Terminal) (s : Stack) (scope : Scope) (at : ℕ) (last : Option Read) → s ≡ record { head = head.GoalOver; from = from; parts = ns; told = tl } ∷ [] →
     ValidAt names place ts s scope at last → IsWhole (One Expression names place) ns ts
-expression-ends names place ns tl ts s scope at None e h = end-none ns (subst (λ x. Stands names place x scope at ts) e h)
+expression-ends names place from ns tl ts s scope at None e h = end-none ns (subst (λ x. Stands names place x scope at ts) e h)
   where
-    end-none : (ns : Trees) → Stands names place (record { head = head.GoalOver; from = place; parts = ns; told = tl } ∷ []) scope at ts → IsWhole (One Expression names place) ns ts
+    end-none : (ns : Trees) → Stands names place (record { head = head.GoalOver; from = from; parts = ns; told = tl } ∷ []) scope at ts → IsWhole (One Expression names place) ns ts
     end-none none (scope0, us, b, fr) = fr.along.fills class.Body refl
     end-none (more n none) (scope0, us, b, fr) = (
-      subst (λ sc. Formed (class.Expression 1) sc place n) b.0 (fr.along.fills class.Body refl).0,
+      subst (λ sc. Formed (class.Expression 1) sc place n) b.0 (subst (λ p. Formed (class.Expression 1) scope0 p n) b.1 (fr.along.fills class.Body refl).0),
       ap (λ ws. ws ++ (tokens n ++ (t.End ∷ []))) (sym b.2) ∙ fr.along.wrote,
     )
     end-none (more n (more m ms)) (scope0, us, b, fr) = (fr.along.fills class.Body refl).1
-expression-ends names place ns tl ts s scope at (Some n) e h = absurd (end-some (subst (λ x. ReadOk names place x n scope at ts) e h))
+expression-ends names place from ns tl ts s scope at (Some n) e h = absurd (end-some (subst (λ x. ReadOk names place x n scope at ts) e h))
   where
-    end-some : ReadOk names place (record { head = head.GoalOver; from = place; parts = ns; told = tl } ∷ []) n scope at ts → ⊥
+    end-some : ReadOk names place (record { head = head.GoalOver; from = from; parts = ns; told = tl } ∷ []) n scope at ts → ⊥
     end-some (scope0, at0, us, b, r, f) = false≢true b.0
 
 -- where the outermost open node wants a declaration, nothing is read before it
@@ -125,7 +127,7 @@ open-whole names place words token parts tl f ts scope at None e (scope0, us, b,
 open-whole names place words token parts tl f ts scope at (Some n) e (scope0, at0, us, b, r, fm) = absurd (false≢true b.0)
 
 open-declaration : (names : Scope) (place : ℕ) (n : Tree) (st : State) (ts : List Terminal) → IsOpen n st → ValidAt names place ts st.stack st.scope st.at st.last → IsDeclaration names place n ts
-open-declaration names place (node (kind.Function s) token parts) st ts (tl, f, e, q) k =
+open-declaration names place (node (kind.Function s) token parts) st ts (tl, f, e, q, l) k =
     open-whole names place s.words token parts tl f ts st.scope st.at st.last e (subst (λ x. ValidAt names place ts x st.scope st.at st.last) q k)
 open-declaration names place (node _ token parts) st ts h k = absurd h
 
@@ -137,7 +139,7 @@ declaration-ends names place n st ts (inr o) k = open-declaration names place n 
 
 phrase-by : (p : Phrase) (names : Scope) (place : ℕ) (ns : Trees) (ts : List Terminal) (r : Option State) → HasEnded (One p names place) ns r → Keeps names place ts r → IsWhole (One p names place) ns ts
 phrase-by Expression names place ns ts None h k = absurd h
-phrase-by Expression names place ns ts (Some st) h k = expression-ends names place ns h.0 ts st.stack st.scope st.at st.last h.1 k
+phrase-by Expression names place ns ts (Some st) h k = expression-ends names place h.0 ns h.1 ts st.stack st.scope st.at st.last h.2 k
 phrase-by Declaration names place ns ts None h k = absurd h
 phrase-by Declaration names place none ts (Some st) h k = absurd h
 phrase-by Declaration names place (more n none) ts (Some st) h k = declaration-ends names place n st ts h k

@@ -13,7 +13,8 @@ use Rattle.p9_grammar.specs.declared.head.Head.TheVariants as head
 use Rattle.p9_grammar.specs.Trees.{Tree, push}
 use Rattle.p9_grammar.specs.Scopes.{Scope, add, leave}
 use Rattle.p9_grammar.specs.Machine.{Frame, Read, Stack, State, state, fresh, moved, made, step, run, begin, Begin, Pushes, Leaf, Under, Nowhere, Move, Shift, Ends, Opens, Over, Refused, After, To, Makes, Unwanted, Join, Joins, Posts, Lengthens, Apart, opening, inside, resolve, attach, attached, joining, join, settle, going, feed, fed, decide, choose, wanted, role, opens, move, retold, begins_type, end_or, is_close_paren, or_close_paren, stepped}
-use Rattle.p9_prefix.specs.Goals.{Expression, Declaration, Goal, File, One}
+use Rattle.p9_prefix.specs.declared.phrase.Phrase.TheVariants.{Expression, Declaration}
+use Rattle.p9_prefix.specs.Goals.{Goal, File, One}
 use Rattle.p9_viable.proofs.Calm.{up, waits, calm, calm_begin, calm_after, calm_join, calm-move, calm-attached, calm-begin, calm-join}
 
 -- stacks
