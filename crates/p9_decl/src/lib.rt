@@ -1,13 +1,12 @@
-// A library with one function.
+//! The reader of one expression or one declaration, and of all tokens of a list within the limits.
 #![tactic(auto)]
 
-ghost use Rattle.std.specs.Prelude.{◌≡◌};
-ghost use Rattle.p9_decl.specs.Echo.{echo_of};
+mod fault;
+mod finish;
+mod limits;
+mod phrase;
+mod walk;
 
-// The `ensures` clause is the contract: what `echo` returns is `echo_of` of its argument, a definition
-// in `specs/Echo.antt`, which a caller's clause can cite too.
-pub fn echo(x: usize) -> usize
-    ensures { result ≡ echo_of x }
-{
-    x
-}
+pub use fault::ParseFault;
+pub use phrase::{Parsed, parse_decl, parse_expr};
+pub use walk::read_all;

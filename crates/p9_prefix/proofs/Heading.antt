@@ -107,7 +107,6 @@ reads-head c f s k words symbols scope at ps tail result h b first g z q =
     spec-starts f s scope at k words symbols ps tail h b
     ∙ spec-read c f s at tail result k scope words [] words symbols refl h first g scope at ps none nothing (λ e. refl) z q
 
-
 -- a declaration that has just been read, before these tokens
 abbrev pub done : Kind → Frame → Stack → ℕ → List Terminal → Trees → Scope → ℕ → Option State
 done k f s from tail parts scope at = run (Some (state (f ∷ s) scope at (Some (record { tree = node k from parts; told = nothing })))) tail
@@ -226,7 +225,6 @@ goes-declaration c f s from words (false ∷ is) tail ht scope at (more n ns) ac
     opens-declarator context.Head words (head.Declarators context.Head words []) naming.Named f s from acc tl scope at at n (spells (initialiser false ++ later_end (is_typedef words) is) ns tail) ht
     (head-opens words) (λ b. refl) h.0
     ∙ one-read false is (later-read is) [] context.Head words c f s from acc tl scope at n ns tail z h
-
 
 -- the outermost open node, where a declaration is wanted
 abbrev pub ground : ℕ → Frame
