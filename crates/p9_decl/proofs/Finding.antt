@@ -1,5 +1,5 @@
 -- What the reader finds in open nodes.
-use Rattle.std.proofs.Common.{◌≡◌, inl, inr, ℕ, zero, suc, ◌-◌, ◌≤◌, Bool, true, false, List, [], ◌∷◌, length, reverse, refl, sym, ap, subst, ◌∙◌, arith}
+use Rattle.std.proofs.Common.{◌≡◌, inl, inr, ℕ, zero, suc, ◌-◌, ◌≤◌, true, false, List, [], ◌∷◌, length, reverse, refl, sym, ap, subst, ◌∙◌, arith}
 use Rattle.std.specs.Prelude.{pred, Option, Some, None, IfNone}
 use Rattle.std.proofs.lemmas.Bool.{false≢true}
 use Rattle.std.proofs.lemmas.List.{length-reverse}

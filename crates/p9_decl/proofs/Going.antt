@@ -1,18 +1,17 @@
 -- What is read once more is read as before.
-use Rattle.std.proofs.Common.{◌≡◌, ℕ, zero, suc, ◌+◌, List, [], ◌∷◌, ◌++◌, take, Option, Some, None, refl, sym, ap, subst, ◌∙◌, arith}
+use Rattle.std.proofs.Common.{◌≡◌, ℕ, zero, suc, ◌+◌, List, [], ◌∷◌, ◌++◌, take, Some, None, refl, sym, ap, subst, ◌∙◌, arith}
 use Rattle.p9_lex.specs.declared.token.Token.{Token}
 use Rattle.p9_grammar.specs.declared.terminal.Terminal.{Terminal}
 use Rattle.p9_grammar.specs.Machine.{State, run}
 use Rattle.p9_grammar.specs.Scopes.{Scope}
 use Rattle.p9_prefix.specs.declared.phrase.Phrase.{Phrase}
-use Rattle.p9_prefix.specs.declared.phrase.Phrase.TheVariants.{Expression, Declaration}
 use Rattle.p9_prefix.specs.Ends.{Endless}
 use Rattle.p9_prefix.specs.Goals.{One, start}
-use Rattle.p9_prefix.proofs.Wholes.{run-append}
+use Rattle.p9_prefix.proofs.Wholes.{run-append, run-none}
 use Rattle.p9_terminal.specs.Terminals.{terminal_of, terminals}
 use Rattle.p9_decl.specs.declared.fault.ParseFault.{ParseFault}
 use Rattle.p9_decl.specs.declared.fault.ParseFault.TheVariants as fault
-use Rattle.p9_decl.specs.Walks.{IsBehind, IsWithin, Passes, Reaches, Stops}
+use Rattle.p9_decl.specs.Walks.{IsWithin, Passes, Reaches, Stops}
 use Rattle.p9_decl.proofs.Walking.{endless-front}
 
 again : (ts : List Token) (m n : ℕ) → (k : ℕ) × (take n (take m ts) ≡ take k ts)
@@ -25,10 +24,6 @@ front : (ts : List Token) (n : ℕ) → (others : List Terminal) × (terminals t
 front ts zero = (terminals ts, refl)
 front [] (suc n) = ([], refl)
 front (x ∷ ts) (suc n) = let r = front ts n in (r.0, ap (λ us. terminal_of x.kind ∷ us) r.1)
-
-run-none : (ts : List Terminal) → run None ts ≡ None
-run-none [] = refl
-run-none (x ∷ ts) = refl
 
 none-some : (st : State) → None ≡ Some st → ⊥
 none-some st e = cc

@@ -1,16 +1,14 @@
 -- What the machine's walk tells of phrases.
-use Rattle.std.proofs.Common.{◌≡◌, ◌⊎◌, inl, inr, ℕ, zero, suc, ◌+◌, ◌-◌, ◌<◌, ◌≤◌, max, List, [], ◌∷◌, ◌++◌, length, take, drop, Option, Some, None, refl, sym, ap, subst, ◌∙◌, arith, append_assoc, append-nil, length-append}
-use Rattle.std.specs.Prelude.{⊤}
+use Rattle.std.proofs.Common.{◌≡◌, ◌⊎◌, inl, inr, ℕ, zero, suc, ◌+◌, ◌-◌, ◌<◌, ◌≤◌, List, [], ◌∷◌, ◌++◌, length, take, drop, Option, Some, None, refl, sym, ap, subst, ◌∙◌, arith, append_assoc, append-nil, length-append}
 use Rattle.std.proofs.lemmas.List.{length-drop}
-use Rattle.p9_lang.specs.declared.tree.Kind.TheVariants as kind
 use Rattle.p9_lex.specs.declared.token.Token.{Token}
 use Rattle.p9_grammar.specs.declared.terminal.Terminal.{Terminal}
 use Rattle.p9_grammar.specs.declared.terminal.Terminal.TheVariants as t
 use Rattle.p9_grammar.specs.declared.head.Head.TheVariants as head
-use Rattle.p9_grammar.specs.Trees.{Tree, node, Trees, none, more, height, height_in, nodes, nodes_in}
+use Rattle.p9_grammar.specs.Trees.{Tree, Trees, none, more, height, height_in, nodes, nodes_in}
 use Rattle.p9_grammar.specs.Scopes.{Scope}
 use Rattle.p9_grammar.specs.Grammar.{tokens}
-use Rattle.p9_grammar.specs.Machine.{Frame, State, run, step}
+use Rattle.p9_grammar.specs.Machine.{State, run, step}
 use Rattle.p9_prefix.specs.declared.phrase.Phrase.{Phrase}
 use Rattle.p9_prefix.specs.declared.phrase.Phrase.TheVariants.{Expression, Declaration}
 use Rattle.p9_prefix.specs.Ends.{Endless}
@@ -19,14 +17,14 @@ use Rattle.p9_prefix.specs.Growth.{height_so_far, nodes_so_far, raised, joined, 
 use Rattle.p9_prefix.proofs.Closing.{end-adds-nothing}
 use Rattle.p9_prefix.proofs.Endless.{cut, phrases-are-endless}
 use Rattle.p9_prefix.proofs.Growing.{only-grows}
-use Rattle.p9_prefix.proofs.Wholes.{Arrives, arrives, refuses, run-append}
+use Rattle.p9_prefix.proofs.Wholes.{arrives, refuses, run-append}
 use Rattle.p9_viable.proofs.Beginning.{goes-on}
 use Rattle.p9_viable.proofs.Ended.{reads-only-wholes}
 use Rattle.p9_terminal.specs.Terminals.{terminal_of, terminals}
 use Rattle.p9_decl.specs.declared.fault.ParseFault.{ParseFault}
 use Rattle.p9_decl.specs.declared.fault.ParseFault.TheVariants as fault
 use Rattle.p9_decl.specs.Finishing.{Finishes, IsOver}
-use Rattle.p9_decl.specs.Phrases.{AllHigher, AllLarger, Begins, IsGreatest, IsPlaced, IsRead, Refuses, between, next_of}
+use Rattle.p9_decl.specs.Phrases.{Begins, IsGreatest, IsPlaced, IsRead, Refuses, between, next_of}
 use Rattle.p9_decl.specs.Walks.{HasRead, IsBehind, IsWithin, Passes, Reaches}
 use Rattle.p9_decl.proofs.Walking.{endless-front}
 

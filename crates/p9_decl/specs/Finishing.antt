@@ -1,5 +1,5 @@
 -- Where the reader's machine stands when it has read a phrase.
-use Rattle.std.specs.Prelude.{◌≡◌, ◌⊎◌, ℕ, Bool, true, false, [], ◌∷◌, Option, Some, None}
+use Rattle.std.specs.Prelude.{◌≡◌, ◌⊎◌, Bool, true, false, [], ◌∷◌, Option, Some, None}
 use Rattle.p9_lang.specs.declared.tree.Kind.TheVariants as kind
 use Rattle.p9_grammar.specs.declared.terminal.Terminal.TheVariants.{End}
 use Rattle.p9_grammar.specs.declared.head.Head.{Head}

@@ -1,5 +1,5 @@
 -- What is promised of the reader of one phrase: an expression, or a declaration or a function's head.
-use Rattle.std.specs.Prelude.{◌≡◌, ℕ, Bool, true, false, pred, ◌+◌, ◌-◌, ◌<◌, ◌≤◌, List, ◌++◌, take, drop, length, Result, Ok, Err, ⊤}
+use Rattle.std.specs.Prelude.{◌≡◌, ℕ, Bool, true, false, pred, ◌-◌, ◌<◌, ◌≤◌, List, ◌++◌, take, drop, length, Result, Ok, Err, ⊤}
 use Rattle.p9_lang.specs.declared.tree.Kind.{Kind}
 use Rattle.p9_lang.specs.declared.tree.Kind.TheVariants as kind
 use Rattle.p9_lex.specs.declared.token.Token.{Token}

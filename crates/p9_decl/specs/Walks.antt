@@ -2,7 +2,7 @@
 use Rattle.std.specs.Prelude.{◌≡◌, ◌⊎◌, ℕ, ◌+◌, ◌<◌, ◌≤◌, List, [], ◌∷◌, take, length, Result, Ok, Err, Option, Some, None, ⊤}
 use Rattle.p9_lex.specs.declared.token.Token.{Token}
 use Rattle.p9_grammar.specs.declared.terminal.Terminal.{Terminal}
-use Rattle.p9_grammar.specs.Machine.{Frame, Read, Stack, State, start_of, run}
+use Rattle.p9_grammar.specs.Machine.{Read, Stack, State, start_of, run}
 use Rattle.p9_prefix.specs.Ends.{Endless}
 use Rattle.p9_prefix.specs.Growth.{height_so_far, nodes_so_far}
 use Rattle.p9_terminal.specs.Terminals.{terminals}

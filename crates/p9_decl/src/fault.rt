@@ -1,10 +1,12 @@
 // Why tokens are no unit, expression or declaration.
 use std::alloc::AllocError;
 
-/// Why tokens have no tree. A limit comes with the place of the first token of the item that passes it.
+/// Why tokens have no tree. A limit comes with the place of the first token of the item that passes
+/// it.
 #[derive(Clone, Copy, Debug, PartialEq, Eq, Drop)]
 pub enum ParseFault {
-    /// Nothing of what is read begins with the tokens up to and with this place, or they end before it.
+    /// With the token at this place nothing of what is read begins so, or the tokens before it are no
+    /// whole one.
     Syntax(u32),
     TooDeep { limit: u32, item: u32 },
     TooManyNodes { limit: u32, item: u32 },

@@ -17,8 +17,8 @@ use p9_tree_build::{Pile, Scope, opened};
 use p9_tree_reader::Reader;
 use std::alloc::{AllocError, Global};
 
-/// A node that has been read, and the place of the first token behind it. Behind the head of a function,
-/// whose node has no block, that is the brace.
+/// A node that has been read, and the place of the first token behind it. Behind the head of a
+/// function, whose node has no block, that is the brace.
 #[derive(Drop)]
 pub struct Parsed {
     pub node: Node,
@@ -168,9 +168,9 @@ fn read_phrase(
     }
 }
 
-/// Reads one expression from the token at this place, under the names in scope. It is the greatest number of
-/// tokens that begin an expression. The scope gains the names that it declares; where it is refused, the scope
-/// is as it was.
+/// Reads one expression from the token at this place, under the names in scope: the greatest number
+/// of tokens that begin one. The scope gains the names that it declares; where it is refused, the
+/// scope is as it was.
 pub fn parse_expr(
     alloc: Global,
     tokens: &Tokens,
@@ -196,9 +196,9 @@ pub fn parse_expr(
     Ok(Parsed { node, next })
 }
 
-/// Reads one declaration from the token at this place, or the head of a function: its tree has no block, and
-/// the next token is the brace. Behind a head one more level of names is open, that of the parameters. Where it
-/// is refused, the scope is as it was.
+/// Reads one declaration from the token at this place, or the head of a function: its tree has no
+/// block, and the next token is the brace. Behind a head one more level of names is open, that of the
+/// parameters. Where it is refused, the scope is as it was.
 pub fn parse_decl(
     alloc: Global,
     tokens: &Tokens,

@@ -1,16 +1,15 @@
 -- The machine at each token of a unit.
-use Rattle.std.proofs.Common.{◌≡◌, ℕ, suc, ◌+◌, ◌<◌, ◌≤◌, max, reverse, List, [], ◌∷◌, ◌++◌, length, take, get_or, true, false, Option, Some, None, Err, refl, sym, ap, subst, ◌∙◌, arith, append_assoc, append-nil}
+use Rattle.std.proofs.Common.{◌≡◌, ℕ, suc, ◌+◌, ◌<◌, ◌≤◌, max, reverse, List, [], ◌∷◌, ◌++◌, length, take, true, false, Option, Some, None, refl, sym, ap, subst, ◌∙◌, arith, append_assoc, append-nil}
 use Rattle.std.specs.Prelude.{nat_eq}
 use Rattle.std.proofs.lemmas.Bool.{and_parts}
 use Rattle.std.proofs.lemmas.Bool.Decides.{nat_tests}
-use Rattle.std.proofs.lemmas.List.{take_more, map-append, length-reverse}
+use Rattle.std.proofs.lemmas.List.{length-reverse}
 use Rattle.p9_lex.specs.declared.token.Token.{Token}
-use Rattle.p9_grammar.specs.declared.terminal.Terminal.{Terminal}
 use Rattle.p9_grammar.specs.Trees.{Trees, height_in, nodes_in}
 use Rattle.p9_grammar.specs.declared.head.Head.{Head}
 use Rattle.p9_grammar.specs.declared.head.Head.TheVariants as head
 use Rattle.p9_grammar.specs.Scopes.{Scope}
-use Rattle.p9_grammar.specs.Machine.{Frame, Stack, State, Read, state, run, step, file_start}
+use Rattle.p9_grammar.specs.Machine.{Frame, Stack, State, Read, state, run, file_start}
 use Rattle.p9_grammar.specs.Promise.{IsFile, IsRead, BeginsFile, file_tokens}
 use Rattle.p9_grammar.proofs.Unique.{reads-files}
 use Rattle.p9_grammar.proofs.Sound.{reads-only-files}
@@ -23,7 +22,7 @@ use Rattle.p9_viable.proofs.Beginning.{goes-on}
 use Rattle.p9_tree_build.specs.declared.frame.Frame as frame
 use Rattle.p9_tree_build.specs.Machines.{stack_of}
 use Rattle.p9_prefix.proofs.Growing.{only-grows}
-use Rattle.p9_terminal.specs.Terminals.{terminal_of, terminals}
+use Rattle.p9_terminal.specs.Terminals.{terminals}
 use Rattle.p9_decl.specs.declared.fault.ParseFault.{ParseFault}
 use Rattle.p9_decl.specs.declared.fault.ParseFault.TheVariants as fault
 use Rattle.p9_parse.specs.Units.{Begins, BreaksAt, AllHigher, AllLarger, Refuses, EndsInEnd, is_over, is_whole, is_file}

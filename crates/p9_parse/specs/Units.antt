@@ -1,5 +1,5 @@
 -- What is promised of the tokens of a unit.
-use Rattle.std.specs.Prelude.{◌≡◌, ℕ, ◌+◌, ◌<◌, ◌≤◌, List, [], ◌∷◌, ◌++◌, take, length, nat_eq, Bool, true, false, ◌&&◌, Result, Ok, Err, Option, Some, None, ⊤}
+use Rattle.std.specs.Prelude.{◌≡◌, ℕ, ◌+◌, ◌<◌, List, [], ◌∷◌, ◌++◌, take, length, nat_eq, Bool, true, false, ◌&&◌, Result, Ok, Err, Some, ⊤}
 use Rattle.p9_lex.specs.declared.token.Token.{Token}
 use Rattle.p9_grammar.specs.declared.terminal.Terminal.{Terminal}
 use Rattle.p9_grammar.specs.declared.terminal.Terminal.TheVariants.{End}

@@ -1,5 +1,5 @@
 -- The end makes nodes whole and begins none.
-use Rattle.std.proofs.Common.{◌≡◌, ℕ, suc, pred, ◌+◌, ◌≤◌, max, List, [], ◌∷◌, Option, Some, None, refl, sym, ap, subst, arith}
+use Rattle.std.proofs.Common.{◌≡◌, ℕ, suc, ◌+◌, ◌≤◌, max, [], ◌∷◌, Option, Some, None, refl, sym, subst, arith}
 use Rattle.std.specs.Prelude.{⊤}
 use Rattle.p9_grammar.specs.declared.terminal.Terminal.TheVariants as t
 use Rattle.p9_grammar.specs.declared.head.Class.{Class}
@@ -8,7 +8,7 @@ use Rattle.p9_grammar.specs.declared.head.Head.{Head}
 use Rattle.p9_grammar.specs.declared.head.Head.TheVariants as head
 use Rattle.p9_grammar.specs.Trees.{Tree, Trees, push, height, height_in, nodes, nodes_in}
 use Rattle.p9_grammar.specs.Scopes.{Scope, Told, add, leave}
-use Rattle.p9_grammar.specs.Machine.{Frame, Read, Stack, State, made, Move, Shift, Ends, Opens, Over, Refused, After, To, Makes, Unwanted, Join, Apart, opening, begin, wanted, opens, resolve, attach, attached, role, retold, move, joining, join, settle, feed, going, stepped, step}
+use Rattle.p9_grammar.specs.Machine.{Frame, Read, Stack, State, made, Move, Shift, Ends, Opens, Over, Refused, After, To, Makes, Unwanted, Apart, opening, begin, wanted, opens, resolve, attach, attached, role, retold, move, joining, join, settle, feed, going, stepped, step}
 use Rattle.p9_prefix.specs.Growth.{raised, joined, height_of, size_of, EndAddsNothing}
 use Rattle.p9_prefix.proofs.Growing.{raised-le, joined-le, le-trans, height-push, nodes-push}
 

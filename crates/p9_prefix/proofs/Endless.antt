@@ -20,9 +20,8 @@ use Rattle.p9_grammar.specs.Grammar.{tokens, write}
 use Rattle.p9_grammar.specs.Promise.{file_tokens}
 use Rattle.p9_grammar.specs.Scopes.{Scope}
 use Rattle.p9_prefix.specs.Ends.{is_end, Endless, PhrasesAreEndless}
-use Rattle.p9_prefix.specs.declared.phrase.Phrase.{Phrase}
 use Rattle.p9_prefix.specs.declared.phrase.Phrase.TheVariants.{Expression, Declaration}
-use Rattle.p9_prefix.specs.Goals.{head_symbols, IsDeclaration, IsPhrase}
+use Rattle.p9_prefix.specs.Goals.{head_symbols, IsDeclaration}
 
 abbrev Quiet : Symbol → Type 0
 Quiet (Write x) = is_end x ≡ false

@@ -1,5 +1,5 @@
 -- What is read only grows.
-use Rattle.std.proofs.Common.{◌≡◌, ℕ, suc, pred, ◌+◌, ◌≤◌, max, Bool, true, false, List, [], ◌∷◌, ◌++◌, Option, Some, None, refl, sym, ap, subst, ◌∙◌, arith}
+use Rattle.std.proofs.Common.{◌≡◌, ℕ, suc, pred, ◌+◌, ◌≤◌, max, Bool, true, false, List, [], ◌∷◌, ◌++◌, Option, Some, None, sym, ap, subst, ◌∙◌, arith}
 use Rattle.std.specs.Prelude.{⊤}
 use Rattle.p9_grammar.specs.declared.terminal.Terminal.{Terminal}
 use Rattle.p9_grammar.specs.declared.head.Head.{Head}
@@ -7,15 +7,10 @@ use Rattle.p9_grammar.specs.declared.head.Context.TheVariants as context
 use Rattle.p9_lang.specs.declared.tree.SpecWord.TheVariants as word
 use Rattle.p9_grammar.specs.declared.head.Head.TheVariants as head
 use Rattle.p9_grammar.specs.Trees.{Tree, Trees, none, more, push, height, height_in, nodes, nodes_in}
-use Rattle.p9_grammar.specs.Scopes.{Scope, Told, nothing, add, leave, through}
-use Rattle.p9_grammar.specs.Symbols.{file_symbols}
-use Rattle.p9_grammar.specs.Grammar.{past_in}
-use Rattle.p9_grammar.specs.Trees.{count}
-use Rattle.p9_grammar.specs.Promise.{file_scope}
-use Rattle.p9_grammar.specs.Machine.{Frame, Read, Stack, State, state, fresh, moved, made, Begin, Pushes, Leaf, Under, Nowhere, Move, Shift, Ends, Opens, Over, Refused, After, To, Makes, Unwanted, Join, Joins, Posts, Lengthens, Apart, inside, opening, begin, wanted, opens, resolve, attach, attached, role, retold, move, joining, join, settle, choose, decide, begins_type, is_close_paren, or_close_paren, feed, fed, going, stepped, step, run, file_start}
-use Rattle.p9_grammar.proofs.Unique.{file-read, file_end}
+use Rattle.p9_grammar.specs.Scopes.{Scope, add, leave}
+use Rattle.p9_grammar.specs.Machine.{Frame, Read, Stack, State, state, fresh, moved, made, Begin, Pushes, Leaf, Under, Nowhere, Move, Shift, Ends, Opens, Over, Refused, After, To, Makes, Unwanted, Join, Joins, Posts, Lengthens, Apart, inside, opening, begin, wanted, opens, resolve, attach, attached, role, retold, move, joining, join, settle, choose, decide, begins_type, is_close_paren, or_close_paren, feed, fed, going, stepped, step, run}
 use Rattle.p9_prefix.specs.Goals.{Goal, File, One, start}
-use Rattle.p9_prefix.proofs.Wholes.{Arrives, arrives, run-append}
+use Rattle.p9_prefix.proofs.Wholes.{arrives, run-append}
 use Rattle.p9_prefix.specs.Growth.{raised, joined, height_of, size_of, OnlyGrows}
 use Rattle.p9_prefix.proofs.Textless.{Bare, bare-node, bare-leaf, GoodMove, GoodAfter, GoodJoin, good-move, good-after, good-join}
 

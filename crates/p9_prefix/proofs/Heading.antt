@@ -1,20 +1,10 @@
 -- Declarations and heads of functions are read to their end, whatever stands behind.
-use Rattle.std.proofs.Common.{◌≡◌, ℕ, zero, suc, ◌+◌, ◌-◌, ◌≤◌, ◌<◌, nat_le, Bool, true, false, ◌||◌, ◌&&◌, ◌⊎◌, inl, inr, not, List, [], ◌∷◌, ◌++◌, Option, Some, None, refl, sym, ap, subst, ◌∙◌, arith, ⊎_elim, append_assoc, append-nil, map}
-use Rattle.std.specs.Prelude.{⊤}
-use Rattle.std.proofs.lemmas.Bool.{false≢true, and_parts, not-true}
-use Rattle.p9_lang.specs.declared.tree.CBinary.{CBinary}
-use Rattle.p9_lang.specs.declared.tree.CBinary.TheVariants as operator
-use Rattle.p9_lang.specs.declared.tree.CUnary.{CUnary}
-use Rattle.p9_lang.specs.declared.tree.CUnary.TheVariants as unary
-use Rattle.p9_lang.specs.declared.tree.EntryBy.{EntryBy}
-use Rattle.p9_lang.specs.declared.tree.EntryBy.TheVariants as by
+use Rattle.std.proofs.Common.{◌≡◌, ℕ, suc, Bool, true, false, ◌&&◌, List, [], ◌∷◌, ◌++◌, Option, Some, None, refl, sym, ap, ◌∙◌, arith, append_assoc, append-nil}
+use Rattle.std.proofs.lemmas.Bool.{false≢true}
 use Rattle.p9_lang.specs.declared.tree.SpecWord.{SpecWord}
 use Rattle.p9_lang.specs.declared.tree.SpecWord.TheVariants as word
 use Rattle.p9_lang.specs.declared.tree.Kind.{Kind}
 use Rattle.p9_lang.specs.declared.tree.Kind.TheVariants as kind
-use Rattle.p9_grammar.specs.declared.terminal.Keyword.{Keyword}
-use Rattle.p9_grammar.specs.declared.terminal.Keyword.TheVariants as key
-use Rattle.p9_grammar.specs.declared.terminal.Punctuator.{Punctuator}
 use Rattle.p9_grammar.specs.declared.terminal.Punctuator.TheVariants as mark
 use Rattle.p9_grammar.specs.declared.terminal.Terminal.{Terminal}
 use Rattle.p9_grammar.specs.declared.terminal.Terminal.TheVariants as t
@@ -26,24 +16,21 @@ use Rattle.p9_grammar.specs.declared.head.Class.{Class}
 use Rattle.p9_grammar.specs.declared.head.Class.TheVariants as class
 use Rattle.p9_grammar.specs.declared.head.Head.{Head}
 use Rattle.p9_grammar.specs.declared.head.Head.TheVariants as head
-use Rattle.p9_grammar.specs.Trees.{Tree, node, Trees, none, more, count, push}
-use Rattle.p9_grammar.specs.Symbols.{Symbol, Write, Part, Enter, Slot, Of, Last, Pointed, Direct, Grouped, Role, Plain, Declares, Begins, part, sign, keyword, right_side, binds, binary_sign, unary_sign, assignment_sign, step_sign, dot_sign, expression, assignment, conditional, operand, later, listed, many, optional, at_most_one, branches, texts, spec_symbols, word_symbols, spec_parts, is_typedef, declarator, declarator_of, declarators, later_declarators, initialiser, qualifier, inner_declarator, parameters, parameter_list, behind, entry_place, named, in_braces, tag_key}
-use Rattle.p9_grammar.specs.Scopes.{Scope, Level, is_type, after, told, told_first, through, add, leave, tells, nothing, Told, innermost, outer}
-use Rattle.p9_grammar.specs.Grammar.{Sort, sort, Accepts, Suits, Asks, Formed, Fills, slot_class, naming_of, may_of, past, past_in, is_assignable, SpecFrom, IsSpec, may_follow, has_type, is_known, is_void_word, pointed, grouped}
+use Rattle.p9_grammar.specs.Trees.{Tree, node, Trees, none, more, push}
+use Rattle.p9_grammar.specs.Symbols.{Symbol, Declares, Begins, sign, spec_symbols, is_typedef, declarator_of, declarators, later_declarators, initialiser}
+use Rattle.p9_grammar.specs.Scopes.{Scope, is_type, after, told, told_first, through, add, nothing, Told, innermost}
+use Rattle.p9_grammar.specs.Grammar.{Formed, Fills, past, past_in, IsSpec, has_type}
 use Rattle.p9_grammar.specs.Machine.{Frame, Read, Stack, State, state, to, fresh, moved, made, leaf, start_of, step, run, begin, begin_by, begin_spec, begin_expression, begin_declarator, begin_statement, begin_switch_item, begin_initialiser, only_if, or_else, Begin, Pushes, Leaf, Under, Nowhere, Move, Shift, Ends, Opens, Over, Refused, After, To, Makes, Unwanted, Join, Joins, Posts, Lengthens, Apart, opening, inside, resolve, attach, attached, joining, join, join_at, join_if, join_expression, join_declarator, settle, going, feed, decide, choose, wanted, role, retold, enters, opens, Infix, Binds, No, binding, binary, assigns, level_of, direct_of, move, spec_move, begins_type, allows_storage, spec, shift_if, ends_spec, paren_or, brace_or, semicolon_or, bracket_or}
 use Rattle.p9_grammar.proofs.Spelling.{spell, spells}
-use Rattle.p9_grammar.proofs.Reading.{opened, read, Meets, calm, calm_at, quiet, is_no_else, ends_param, ends_type, ends_constant, follows, Reads, Each, ReadsNode, opens-up}
-use Rattle.p9_grammar.proofs.Calm.{le_true, le_false, true_le, low, low-calm, low-apart, Edge, calm-low, quiet-apart, quiet-less}
-use Rattle.p9_grammar.proofs.First.{First, starts, starts_expression, starts_declarator, starts_statement, starts_switch_item, starts_initialiser, starts_entry, starts_spec, first-expression, first-declarator, first-spec, word_token, word_head, moves-word, first_of_word, first-along}
+use Rattle.p9_grammar.proofs.Reading.{opened, Reads, Each, opens-up}
+use Rattle.p9_grammar.proofs.First.{First, starts_declarator, first-declarator, first-along}
 use Rattle.p9_grammar.specs.Machine.{is_begun, only_if, begin_entry, begin_body, begin_constant, fed, else_move, stepped}
-use Rattle.p9_grammar.specs.Grammar.{Expression, Declarator, Braced, Entry, Param, TypeName, Member, Constant, Declaration, Function, Block, Statement, Label}
-use Rattle.p9_grammar.proofs.Expressions.{append, append-push, append-none, formed-start, formed-level, reads-leaf, reads-push, reads-join, reads-apart, opens-first, no-type, first-type, join-tight, calm-left}
+use Rattle.p9_grammar.proofs.Expressions.{append, append-push, append-none, opens-first}
 use Rattle.p9_grammar.specs.Machine.{behind_type, next_declarator, declared_move, body_move, member_declared, constant_named}
 use Rattle.p9_grammar.specs.Machine as machine
-use Rattle.p9_grammar.proofs.Declarators.{param_end}
-use Rattle.p9_grammar.proofs.Heads.{Goes, Anywhere, stands, spec-read, spec-starts, spec-has-type, no-second-type, no_brace}
+use Rattle.p9_grammar.proofs.Heads.{Goes, Anywhere, spec-read, spec-starts, spec-has-type, no-second-type, no_brace}
 use Rattle.p9_grammar.proofs.Complete.{each}
-use Rattle.p9_prefix.specs.Goals.{head_symbols, IsDeclaration}
+use Rattle.p9_prefix.specs.Goals.{head_symbols}
 
 abbrev is_no_key : Terminal → Bool
 is_no_key (t.Key k) = false

@@ -1,5 +1,5 @@
 -- Each whole is read to its end.
-use Rattle.std.proofs.Common.{◌≡◌, inl, inr, ℕ, suc, ◌+◌, max, true, List, [], ◌∷◌, ◌++◌, Option, Some, None, refl, sym, ap, subst, ◌∙◌, arith, append-nil}
+use Rattle.std.proofs.Common.{◌≡◌, inl, inr, Bool, ℕ, suc, true, List, [], ◌∷◌, ◌++◌, Option, Some, None, refl, sym, ap, subst, ◌∙◌, arith, append-nil}
 use Rattle.std.specs.Prelude.{⊤}
 use Rattle.p9_lang.specs.declared.tree.SpecWord.{SpecWord}
 use Rattle.p9_lang.specs.declared.tree.Kind.TheVariants as kind
@@ -11,15 +11,14 @@ use Rattle.p9_grammar.specs.Trees.{Tree, node, Trees, none, more, count, height_
 use Rattle.p9_grammar.specs.Symbols.{expression, file_symbols}
 use Rattle.p9_grammar.specs.Scopes.{Scope, nothing, innermost, after, through}
 use Rattle.p9_grammar.specs.Grammar.{Fills, Formed, IsSpec, past, past_in, tokens, write}
-use Rattle.p9_grammar.specs.Machine.{State, run, spec, step}
+use Rattle.p9_grammar.specs.Machine.{State, file_start, run, spec, state, step}
 use Rattle.p9_grammar.specs.Promise.{IsFile, file_scope, file_tokens}
-use Rattle.p9_grammar.proofs.Spelling.{spell-tokens, spells, spells-write}
+use Rattle.p9_grammar.proofs.Spelling.{spell-tokens, spells-write}
 use Rattle.p9_grammar.proofs.Unique.{expression-read, expression_end, file-read, file_end}
-use Rattle.p9_prefix.specs.declared.phrase.Phrase.{Phrase}
 use Rattle.p9_prefix.specs.declared.phrase.Phrase.TheVariants.{Expression, Declaration}
-use Rattle.p9_prefix.specs.Goals.{Goal, File, One, head_symbols, IsDeclaration, IsWhole, BeginsWhole, HasEnded, names_behind, start, ReadsWholes, Refuses}
+use Rattle.p9_prefix.specs.Goals.{Goal, File, One, head_symbols, IsDeclaration, IsWhole, HasEnded, names_behind, start, ReadsWholes, Refuses}
 use Rattle.p9_prefix.specs.Growth.{raised, joined, height_of, size_of}
-use Rattle.p9_prefix.proofs.Heading.{declaration-read, head-read, done, ground, last_name, open_function}
+use Rattle.p9_prefix.proofs.Heading.{declaration-read, head-read, ground, last_name, open_function}
 
 -- the names where the machine stands
 abbrev pub Names : Goal → Trees → Scope → Type 0
@@ -35,7 +34,7 @@ pub record Arrives (goal : Goal) (ns : Trees) (r : Option State) : Type 0 where
   pub many : joined st.stack (size_of st.last) ≡ suc (nodes_in ns)
   pub high : raised st.stack (height_of st.last) ≡ suc (height_in ns)
 
-file-arrives : (items : Trees) → IsFile items → Arrives File items (run (Some Rattle.p9_grammar.specs.Machine.file_start) (file_tokens items))
+file-arrives : (items : Trees) → IsFile items → Arrives File items (run (Some file_start) (file_tokens items))
 file-arrives items h = record {
   st = file_end items nothing (through (file_symbols (count items)) items file_scope) (past_in (file_symbols (count items)) items 0);
   is = file-read items h;
@@ -62,10 +61,10 @@ expression-arrives n scope at h = record {
 abbrev Arrives-declaration : Scope → ℕ → Tree → List Terminal → Type 0
 Arrives-declaration scope at n ts = Arrives (One Declaration scope at) (more n none) (run (Some (start (One Declaration scope at))) ts)
 
-declaration-arrives : (words : List SpecWord) (inits : List Rattle.std.specs.Prelude.Bool) (token : ℕ) (parts : Trees) (scope : Scope) (at : ℕ) →
+declaration-arrives : (words : List SpecWord) (inits : List Bool) (token : ℕ) (parts : Trees) (scope : Scope) (at : ℕ) →
     Formed class.HeadItem scope at (node (kind.Declaration (spec words) inits) token parts) → Arrives-declaration scope at (node (kind.Declaration (spec words) inits) token parts) (tokens (node (kind.Declaration (spec words) inits) token parts))
 declaration-arrives words inits token parts scope at h = record {
-  st = Rattle.p9_grammar.specs.Machine.state (ground at ∷ []) (after (node (kind.Declaration (spec words) inits) token parts) scope) (past (node (kind.Declaration (spec words) inits) token parts) at)
+  st = state (ground at ∷ []) (after (node (kind.Declaration (spec words) inits) token parts) scope) (past (node (kind.Declaration (spec words) inits) token parts) at)
       (Some (record { tree = node (kind.Declaration (spec words) inits) at parts; told = nothing }));
   is = ap (run (Some (start (One Declaration scope at)))) (sym (append-nil (tokens (node (kind.Declaration (spec words) inits) token parts))) ∙ sym (spell-tokens (node (kind.Declaration (spec words) inits) token parts) []))
       ∙ declaration-read words inits token parts scope at [] h;
@@ -109,7 +108,7 @@ arrives (One Declaration scope at) (more n (more m ms)) ts h = absurd h
 pub reads-wholes : ReadsWholes
 reads-wholes goal ns ts h = let a = arrives goal ns ts h in subst (HasEnded goal ns) (sym a.is) a.ended
 
-run-none : (ts : List Terminal) → run None ts ≡ None
+pub run-none : (ts : List Terminal) → run None ts ≡ None
 run-none [] = refl
 run-none (x ∷ ts) = refl
 

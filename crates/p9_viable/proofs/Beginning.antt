@@ -3,26 +3,22 @@ use Rattle.std.proofs.Common.{◌≡◌, inl, inr, ℕ, Bool, true, false, List,
 use Rattle.std.proofs.lemmas.Bool.{and_parts, false≢true}
 use Rattle.p9_grammar.specs.declared.terminal.Terminal.{Terminal}
 use Rattle.p9_grammar.specs.declared.terminal.Terminal.TheVariants as t
-use Rattle.p9_grammar.specs.declared.head.Class.{Class}
 use Rattle.p9_grammar.specs.declared.head.Class.TheVariants as class
 use Rattle.p9_grammar.specs.declared.head.Head.{Head}
 use Rattle.p9_grammar.specs.declared.head.Head.TheVariants as head
-use Rattle.p9_grammar.specs.Trees.{Tree, node, Trees, none, more, count, push}
+use Rattle.p9_grammar.specs.Trees.{node, Trees, none, more, count, push}
 use Rattle.p9_grammar.specs.Scopes.{Scope, Told, nothing}
-use Rattle.std.specs.Prelude.{⊤}
 use Rattle.p9_lang.specs.declared.tree.SpecWord.{SpecWord}
 use Rattle.p9_lang.specs.declared.tree.SpecWord.TheVariants as word
 use Rattle.p9_lang.specs.declared.tree.Kind.TheVariants as kind
 use Rattle.p9_grammar.specs.Machine.{Frame, Read, Stack, State, spec, state, step, run, wanted}
-use Rattle.p9_grammar.specs.Promise.{file_scope}
 use Rattle.p9_grammar.proofs.Moves.{Wants}
 use Rattle.p9_grammar.proofs.Sofar.{Open}
 use Rattle.p9_grammar.proofs.Tells.{class_of}
 use Rattle.p9_viable.proofs.Ended.{names_of, place_of, goal-keeps, reads-only-wholes}
-use Rattle.p9_grammar.proofs.Sound.{Below, Stands, ValidAt, ReadOk, InFrame, Keeps, run-keeps, reads-only-files}
-use Rattle.p9_prefix.specs.declared.phrase.Phrase.{Phrase}
+use Rattle.p9_grammar.proofs.Sound.{Below, Stands, ValidAt, Keeps}
 use Rattle.p9_prefix.specs.declared.phrase.Phrase.TheVariants.{Expression, Declaration}
-use Rattle.p9_prefix.specs.Goals.{Goal, File, One, bottom, start, HasEnded, IsWhole, BeginsWhole}
+use Rattle.p9_prefix.specs.Goals.{Goal, File, One, start, HasEnded}
 use Rattle.p9_prefix.proofs.Wholes.{run-append}
 use Rattle.p9_viable.specs.Viable.{GoesOn}
 use Rattle.p9_viable.proofs.Calm.{up}

@@ -16,7 +16,6 @@ use Rattle.p9_grammar.specs.Promise.{file_scope}
 use Rattle.p9_grammar.proofs.Along.{words-spec}
 use Rattle.p9_grammar.proofs.Moves.{at_token}
 use Rattle.p9_grammar.proofs.Sound.{Below, Stands, ValidAt, ReadOk, InFrame, Keeps, run-keeps, reads-only-files}
-use Rattle.p9_grammar.proofs.Tells.{class_of}
 use Rattle.p9_prefix.specs.declared.phrase.Phrase.{Phrase}
 use Rattle.p9_prefix.specs.declared.phrase.Phrase.TheVariants.{Expression, Declaration}
 use Rattle.p9_prefix.specs.Goals.{Goal, File, One, head_symbols, start, HasEnded, IsDeclaration, IsWhole, JustRead, IsOpen}

@@ -1,5 +1,4 @@
 use Rattle.std.proofs.Common.{take, subst}
-use Rattle.p9_grammar.specs.Machine.{State}
 use Rattle.p9_prefix.specs.Goals.{One, start}
 use Rattle.p9_tree_reader.specs.Reading.{state_of}
 use Rattle.p9_decl.specs.Walks.{HasRead, Reaches, Stops}
