@@ -1,5 +1,5 @@
 // The addresses at which old lines are entered.
-ghost use Rattle.std.specs.Prelude.{◌≡◌, IfOk, length};
+ghost use Rattle.std.specs.Prelude.{◌≡◌, IfOk, length, slice_index_or};
 ghost use Rattle.p9_r3k.specs.Delayed.{line_address};
 ghost use Rattle.p9_load.specs.Addresses.{entered_addresses, entered_numbers};
 
@@ -18,13 +18,20 @@ fn entered_numbers(alloc: Global, moved: &[u32], count: u32) -> Result<Vec<u32>,
     let mut numbers = moved.to_vec(alloc)?;
     numbers.push(count)?;
     let mut least = count;
-    let mut next = moved.len();
-    while next > 0 {
-        next -= 1;
-        least = least.min(numbers[next]);
-        numbers[next] = least;
+    let mut left = moved.len();
+    while left > 0 {
+        left -= 1;
+        least = moved[left].min(least);
+        numbers[left] = least;
     }
     Ok(numbers)
+}
+
+// A number by its place, or the end behind the last.
+fn number_at(numbers: &[u32], place: u32, end: u32) -> u32
+    ensures { result ≡ slice_index_or numbers.now place end }
+{
+    numbers.get(place as usize).copied().unwrap_or(end)
 }
 
 // The address of a line, by its number.
@@ -50,7 +57,7 @@ pub(crate) fn entered_addresses(
     let mut places = Vec::new(alloc);
     let mut rest = olds;
     while let [old, after @ ..] = rest {
-        let number = numbers.get(*old as usize).copied().unwrap_or(count);
+        let number = number_at(&numbers, *old, count);
         places.push(line_address(number)?)?;
         rest = after;
     }
