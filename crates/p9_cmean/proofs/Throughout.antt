@@ -12,7 +12,7 @@ use Rattle.p9_lang.specs.Types as types
 use Rattle.p9_lang.specs.Trees.{node, none, more}
 use Rattle.p9_lang.specs.Layout.{size_of, alignment_of}
 use Rattle.p9_lang.specs.Modules.{Label, Typed, TypedRow}
-use Rattle.p9_lang.specs.Conversions.{is_structure, Conversion, Same, Null, Inner, No}
+use Rattle.p9_lang.specs.Conversions.{is_integer, is_structure, Conversion, Same, Null, Inner, No}
 use Rattle.p9_lang.specs.Conversions as conversions
 use Rattle.p9_lang.specs.Constants.{truth, type_at}
 use Rattle.p9_cmean.specs.declared.Cause.{Cause}
@@ -112,7 +112,7 @@ module _
     p_store Nothing tags type pl a v s = p_no pl s
 
     p_by : (c : Conversion) (pl : Place) (to : TypeTree) (v : Value) (s : State) → P s (x.by_conversion c pl to v s)
-    p_by Same pl to v s = done v s
+    p_by Same pl to v s = p_if s (is_integer to) (done_at pl s (x.narrow to v)) (Done v s) (p_done_at pl s _) (done v s)
     p_by conversions.Integer pl to v s = p_done_at pl s _
     p_by Null pl to v s = done (Word 0) s
     p_by (Inner offset) pl to v s = p_done_at pl s _

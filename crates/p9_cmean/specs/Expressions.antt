@@ -13,7 +13,7 @@ use Rattle.p9_lang.specs.Trees.{node, none, more}
 use Rattle.p9_lang.specs.Layout.{size_of, alignment_of}
 use Rattle.p9_lang.specs.Members.{Found, At, Missing, Ambiguous, Incomplete, find_member}
 use Rattle.p9_lang.specs.Modules.{Label, Typed, TypedRow}
-use Rattle.p9_lang.specs.Conversions.{is_pointer, is_structure, decayed, common, Conversion, Same, Null, Inner, No, conversion}
+use Rattle.p9_lang.specs.Conversions.{is_integer, is_pointer, is_structure, decayed, common, Conversion, Same, Null, Inner, No, conversion}
 use Rattle.p9_lang.specs.Conversions as conversions
 use Rattle.p9_lang.specs.Constants.{truth, narrowed, is_null_constant, type_at, constant_of}
 use Rattle.p9_cmean.specs.declared.Cause.{Cause}
@@ -103,8 +103,13 @@ store_content Nothing tags type place address value s = NoMeaning place s
 abbrev pub narrow : TypeTree → Value → Result Value Cause
 narrow type value = and_go (integer_in value) (λ n. Ok (Word (narrowed type n)))
 
+-- A value of an integer type has the width of its type. Where a call answers it, that is asked here, since nothing
+-- else says what a call may answer.
+abbrev pub kept_value : Place → (type : TypeTree) → Value → State → Play Value
+kept_value place type value s = if is_integer type then done_at place s (narrow type value) else Done value s
+
 abbrev pub by_conversion : Conversion → Place → (to : TypeTree) → Value → State → Play Value
-by_conversion Same place to value s = Done value s
+by_conversion Same place to value s = kept_value place to value s
 by_conversion conversions.Integer place to value s = done_at place s (narrow to value)
 by_conversion Null place to value s = Done null s
 by_conversion (Inner offset) place to value s = done_at place s (moved_inside s.objects offset value)
