@@ -3,7 +3,7 @@ use Rattle.std.proofs.Common.{ℕ, zero, suc, ◌+◌, ◌%◌, ◌==◌, ◌||�
 use Rattle.std.specs.Prelude.{slice_get}
 use Rattle.std.specs.List.{list_any}
 use Rattle.std.proofs.lemmas.List.{length-set, get_or-set_same, get_or-set_other}
-use Rattle.std.proofs.lemmas.Option.{none-some, same_Some}
+use Rattle.std.proofs.lemmas.Option.{none-some, same_Some, slice_get_within}
 use Rattle.p9_base.specs.Words.{IsWord}
 use Rattle.p9_base.specs.declared.halt.Ending.TheVariants.{Running}
 use Rattle.p9_base.specs.declared.halt.Effect.TheVariants as effects
@@ -22,7 +22,7 @@ use Rattle.p9_abs.specs.Automatics.{holds_of, calls_in}
 use Rattle.p9_abs.specs.BuiltIn.{linked}
 use Rattle.p9_abs.specs.Steps.{Mach, without_text}
 use Rattle.p9_abs.specs.Runs.{Routine, keeps, Active, Run, Status, Going, Gone, Broken, entered, entered_in, enters, routine_at, linked_to}
-use Rattle.p9_abs.specs.Programs.{routines_of}
+use Rattle.p9_abs.specs.Programs.{addresses_of, Placing, routines_of}
 use Rattle.p9_abs.specs.Validity.{EndsWell}
 use Rattle.p9_names.specs.declared.rules.Rule.TheVariants.{Once}
 use Rattle.p9_names.specs.Linking.{IsKept}
@@ -37,7 +37,7 @@ use Rattle.p9_forms.specs.Laws.{IsFree}
 use Rattle.p9_forms.proofs.Temporary.{rest_at, seen_state, seen-other, line-by, register-written, run-one}
 use Rattle.p9_expand.specs.Program.{program_lines}
 use Rattle.p9_expand_laws.specs.Standing.{line_of}
-use Rattle.p9_refine.specs.Maps.{places_by, function_line, instruction_line, IsMap, addresses_by}
+use Rattle.p9_refine.specs.Maps.{function_line, instruction_line, IsMap, GoesBy, addresses_by}
 use Rattle.p9_refine.proofs.Least.{line_at-least}
 use Rattle.p9_refine.proofs.Numbers.{instruction-within}
 use Rattle.p9_refine.proofs.Finding.{called-there}
@@ -90,29 +90,29 @@ either false c h = h
 
 -- The line of a call
 
-pub by-name : (modules : List AModule) (line : ℕ → ℕ) (data_start n t : ℕ) (k : Rest) (s : State) (g : ℕ) → s.core.ending ≡ Running →
+pub by-name : (modules : List AModule) (line : ℕ → ℕ) (placing : Placing) (n t : ℕ) (k : Rest) (s : State) (g : ℕ) → s.core.ending ≡ Running →
     Stand (program_lines modules) (line_of modules) n (jump_lines (i.Jal 0) (Some g)) →
-    run_by modules line data_start 1 (stands t k s n)
-    ≡ stands t (rest_at (addresses_by modules line data_start) n k) (linked_to (line (n + 1)) s) (line_of modules g)
-by-name modules line data_start n t k s g running there =
-    run-one (addresses_by modules line data_start) (program_lines modules) (stands t k s n)
-    ∙ line-by (addresses_by modules line data_start) (program_lines modules) n t k s (placed (line_of modules) there.0 (going_to (i.Jal 0) g)) (effects.Branch 31 true _) running there.1 refl
-    ∙ register-written (addresses_by modules line data_start) n t k s 31 (line (n + 1)) (line_of modules g) refl
+    run_by modules line placing 1 (stands t k s n)
+    ≡ stands t (rest_at (addresses_by modules line placing) n k) (linked_to (line (n + 1)) s) (line_of modules g)
+by-name modules line placing n t k s g running there =
+    run-one (addresses_by modules line placing) (program_lines modules) (stands t k s n)
+    ∙ line-by (addresses_by modules line placing) (program_lines modules) n t k s (placed (line_of modules) there.0 (going_to (i.Jal 0) g)) (effects.Branch 31 true _) running there.1 refl
+    ∙ register-written (addresses_by modules line placing) n t k s 31 (line (n + 1)) (line_of modules g) refl
 
-pub by-address : (modules : List AModule) (line : ℕ → ℕ) (data_start n t : ℕ) (k : Rest) (s : State) (p j : ℕ) → s.core.ending ≡ Running → IsFree p →
+pub by-address : (modules : List AModule) (line : ℕ → ℕ) (placing : Placing) (n t : ℕ) (k : Rest) (s : State) (p j : ℕ) → s.core.ending ≡ Running → IsFree p →
     Stand (program_lines modules) (line_of modules) n (plain (i.Jalr p 31) ∷ []) → line_at line (reg s.core p) 0 (length (program_lines modules)) ≡ Some j →
-    run_by modules line data_start 1 (stands t k s n)
-    ≡ stands t (rest_at (addresses_by modules line data_start) n k) (linked_to (line (n + 1)) s) j
-by-address modules line data_start n t k s p j running free there found =
-    run-one (addresses_by modules line data_start) (program_lines modules) (stands t k s n)
-    ∙ line-by (addresses_by modules line data_start) (program_lines modules) n t k s (placed (line_of modules) there.0 (plain (i.Jalr p 31))) (effects.JumpTo 31 (reg s.core p)) running there.1
-    (ap (effects.JumpTo 31) (seen-other (addresses_by modules line data_start) n t k s p free))
-    ∙ ap (λ o. on_to o n (linked_line (addresses_by modules line data_start) 31 n (seen_state (addresses_by modules line data_start) n t k s))) found
-    ∙ register-written (addresses_by modules line data_start) n t k s 31 (line (n + 1)) j refl
+    run_by modules line placing 1 (stands t k s n)
+    ≡ stands t (rest_at (addresses_by modules line placing) n k) (linked_to (line (n + 1)) s) j
+by-address modules line placing n t k s p j running free there found =
+    run-one (addresses_by modules line placing) (program_lines modules) (stands t k s n)
+    ∙ line-by (addresses_by modules line placing) (program_lines modules) n t k s (placed (line_of modules) there.0 (plain (i.Jalr p 31))) (effects.JumpTo 31 (reg s.core p)) running there.1
+    (ap (effects.JumpTo 31) (seen-other (addresses_by modules line placing) n t k s p free))
+    ∙ ap (λ o. on_to o n (linked_line (addresses_by modules line placing) 31 n (seen_state (addresses_by modules line placing) n t k s))) found
+    ∙ register-written (addresses_by modules line placing) n t k s 31 (line (n + 1)) j refl
 
 -- Where a call leads
 
-module _ (modules : List AModule) (line : ℕ → ℕ) (data_start : ℕ) (r : Run) (rt : Routine) (a : Abs) (form : Form) (y : Straight) (b : Before modules line data_start r rt a form y) (once : IsKept Once (linked modules)) (m : IsMap modules line data_start) (calls : calls_in form ≡ true) where
+module _ (modules : List AModule) (line : ℕ → ℕ) (placing : Placing) (r : Run) (rt : Routine) (a : Abs) (form : Form) (y : Straight) (b : Before modules line placing r rt a form y) (once : IsKept Once (linked modules)) (m : IsMap modules line) (goes : GoesBy modules line placing) (calls : calls_in form ≡ true) where
   abbrev x : Mach
   x = without_text r.mach
 
@@ -134,16 +134,20 @@ module _ (modules : List AModule) (line : ℕ → ℕ) (data_start : ℕ) (r : R
   calls-here : is-call-of (decoded a) ≡ true
   calls-here = ap is-call-of b.decodes ∙ calls
 
+  next-there : (n : Abs) × (slice_get rt.def.code (r.mach.at + 1) ≡ Some n)
+  next-there = call-goes-on rt.def.code r.mach.at a (sound-here modules line placing r rt a form y b).ending b.there calls-here
+
   after-within : instruction_line modules r.routine (r.mach.at + 1) < length (program_lines modules)
-  after-within =
-      let next = call-goes-on rt.def.code r.mach.at a (sound-here modules line data_start r rt a form y b).ending b.there calls-here in
-      instruction-within modules (all-valid modules b.objects) r.routine rt b.found (r.mach.at + 1) next.0 next.1
+  after-within = (let next = next-there in instruction-within modules (all-valid modules b.objects) r.routine rt b.found (r.mach.at + 1) next.0 next.1)
+
+  after-inside : r.mach.at + 1 < length rt.def.code
+  after-inside = (let next = next-there in slice_get_within rt.def.code (r.mach.at + 1) next.0 next.1)
 
   keeps-here : keeps rt.def ≡ true
   keeps-here = either (not (rt.def.frame == 0)) _ (some-call rt.def.code r.mach.at a b.there calls-here)
 
   kept-here : r.kept ≡ Some (reg r.mach.state.core 29)
-  kept-here = by (frame-here modules line data_start r rt a form y b)
+  kept-here = by (frame-here modules line placing r rt a form y b)
     where
       by : Frame modules (reg r.mach.state.core 29) r.routine r.kept → r.kept ≡ Some (reg r.mach.state.core 29)
       by frame =
@@ -171,7 +175,7 @@ module _ (modules : List AModule) (line : ℕ → ℕ) (data_start : ℕ) (r : R
       instruction_line modules r.routine (r.mach.at + 1) ≡ instruction_line modules r.routine r.mach.at + 1 →
       Entering modules line g rg linked_state (active ∷ r.callers)
   entering g rg found link next =
-      let frame : Frame modules (reg r.mach.state.core 29) r.routine r.kept = frame-here modules line data_start r rt a form y b in
+      let frame : Frame modules (reg r.mach.state.core 29) r.routine r.kept = frame-here modules line placing r rt a form y b in
       let to : ℕ = line after in
       let l : LaidOut x.state.core = b.matches.laid in
       let pointer : reg linked_state.core 29 ≡ reg r.mach.state.core 29 = get_or-set_other r.mach.state.core.regs 31 29 to 0 (let differ : 29 ≢ 31 = omega arith in differ) in
@@ -198,6 +202,7 @@ module _ (modules : List AModule) (line : ℕ → ℕ) (data_start : ℕ) (r : R
         waiting = (
           back,
           least-after link next,
+          (λ q e. subst (λ (z : Routine). r.mach.at + 1 < length z.def.code) (same_Some rt q (sym b.found ∙ e)) after-inside),
           kept-here ∙ ap Some (sym pointer),
           subst (λ n. Stacked modules line (reg linked_state.core 31) (λ k. read_word linked_state.core k) n r.routine r.kept r.callers) (sym pointer) stack,
         );
@@ -207,39 +212,42 @@ module _ (modules : List AModule) (line : ℕ → ℕ) (data_start : ℕ) (r : R
   call-led : (g : ℕ) (rg : Routine) → slice_get (routines_of modules) g ≡ Some rg →
       is_at links (program_lines modules) (instruction_line modules r.routine r.mach.at) ≡ true →
       instruction_line modules r.routine (r.mach.at + 1) ≡ instruction_line modules r.routine r.mach.at + 1 →
-      ((t : ℕ) × (k : Rest) × (run_by modules line data_start 1 y ≡ stands t k linked_state (function_line modules g))) →
-      Leads modules line data_start y (entered rg.def linked_state g (active ∷ r.callers))
+      ((t : ℕ) × (k : Rest) × (run_by modules line placing 1 y ≡ stands t k linked_state (function_line modules g))) →
+      Leads modules line placing y (entered rg.def linked_state g (active ∷ r.callers))
   call-led g rg found link next (t, k, run) =
-      by (entered rg.def linked_state g (active ∷ r.callers)) (entry-enters modules line data_start g rg linked_state (active ∷ r.callers) (entering g rg found link next) t k)
+      by (entered rg.def linked_state g (active ∷ r.callers)) (entry-enters modules line placing g rg linked_state (active ∷ r.callers) (entering g rg found link next) t k)
     where
-      by : (st : Status) → EntersAs modules line data_start (stands t k linked_state (function_line modules g)) st → Leads modules line data_start y st
+      by : (st : Status) → EntersAs modules line placing (stands t k linked_state (function_line modules g)) st → Leads modules line placing y st
       by (Going q) e = (
         1 + e.0,
         omega arith,
         omega (arith, e.1),
         subst (Matches modules line q)
-            (ap (run_by modules line data_start e.0) (sym run) ∙ sym (straight_run-sum (addresses_by modules line data_start) (program_lines modules) 1 e.0 y)) e.2,
+            (ap (run_by modules line placing e.0) (sym run) ∙ sym (straight_run-sum (addresses_by modules line placing) (program_lines modules) 1 e.0 y)) e.2,
       )
       by (Gone s) e = absurd e
       by Broken e = tt
 
   -- the function that is called, if there is one
   pub calls-lead : (to : ℕ) →
-      ((g : ℕ) → routine_at (places_by modules line data_start) (routines_of modules) 0 to ≡ Some g →
+      ((g : ℕ) → routine_at (addresses_of modules placing) (routines_of modules) 0 to ≡ Some g →
       (is_at links (program_lines modules) (instruction_line modules r.routine r.mach.at) ≡ true)
       × (instruction_line modules r.routine (r.mach.at + 1) ≡ instruction_line modules r.routine r.mach.at + 1)
-      × ((t : ℕ) × (k : Rest) × (run_by modules line data_start 1 y
+      × ((t : ℕ) × (k : Rest) × (run_by modules line placing 1 y
       ≡ stands t k (linked_to (line (instruction_line modules r.routine (r.mach.at + 1))) (without_text r.mach).state) (function_line modules g)))) →
-      Leads modules line data_start y
-      (enters (routines_of modules) (routine_at (places_by modules line data_start) (routines_of modules) 0 to)
-      (linked_to (line (instruction_line modules r.routine (r.mach.at + 1))) (without_text r.mach).state)
+      Leads modules line placing y
+      (enters (routines_of modules) (routine_at (addresses_of modules placing) (routines_of modules) 0 to)
+      (linked_to (placing.instruction r.routine (r.mach.at + 1)) (without_text r.mach).state)
       (record { routine = r.routine; after = r.mach.at + 1; kept = r.kept } ∷ r.callers))
-  calls-lead to lines = by (routine_at (places_by modules line data_start) (routines_of modules) 0 to) refl
+  calls-lead to lines =
+      subst (λ z. Leads modules line placing y (enters (routines_of modules) (routine_at (addresses_of modules placing) (routines_of modules) 0 to) (linked_to z x.state) (active ∷ r.callers)))
+      (sym (goes.instructions r.routine (r.mach.at + 1) rt b.found after-inside))
+      (by (routine_at (addresses_of modules placing) (routines_of modules) 0 to) refl)
     where
-      by : (o : Option ℕ) → routine_at (places_by modules line data_start) (routines_of modules) 0 to ≡ o →
-          Leads modules line data_start y (enters (routines_of modules) o linked_state (active ∷ r.callers))
+      by : (o : Option ℕ) → routine_at (addresses_of modules placing) (routines_of modules) 0 to ≡ o →
+          Leads modules line placing y (enters (routines_of modules) o linked_state (active ∷ r.callers))
       by None e = tt
       by (Some g) e =
-          let there = called-there modules line data_start (all-valid modules b.objects) once m to g e in
+          let there = called-there modules line placing (all-valid modules b.objects) once m goes to g e in
           let l = lines g e in
-          subst (λ o. Leads modules line data_start y (entered_in o linked_state g (active ∷ r.callers))) (sym there.1) (call-led g there.0 there.1 l.0 l.1 l.2)
+          subst (λ o. Leads modules line placing y (entered_in o linked_state g (active ∷ r.callers))) (sym there.1) (call-led g there.0 there.1 l.0 l.1 l.2)

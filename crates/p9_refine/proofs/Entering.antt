@@ -12,7 +12,7 @@ use Rattle.p9_base.specs.Holding.{LaidOut}
 use Rattle.p9_base.proofs.Kept.{length-word}
 use Rattle.p9_abs.specs.declared.modules.AModule.{AModule}
 use Rattle.p9_abs.specs.Runs.{Routine, keeps, taken_by, Active, Status, Going, Gone, Broken, lowered, at_first, kept_entry, entered}
-use Rattle.p9_abs.specs.Programs.{routines_of}
+use Rattle.p9_abs.specs.Programs.{Placing, routines_of}
 use Rattle.p9_abs.specs.Validity.{IsValid}
 use Rattle.p9_r3k.specs.Straight.{Straight}
 use Rattle.p9_lines.specs.FormLines.{plain, lower_lines, entry_lines}
@@ -31,7 +31,7 @@ use Rattle.p9_refine.specs.Maps.{function_line, instruction_line, addresses_by}
 use Rattle.p9_refine.proofs.Words.{written-to-stack, word-kept, word-read, stack-writable}
 use Rattle.p9_refine.proofs.Numbers.{all-at}
 use Rattle.p9_refine.proofs.Plain.{HasRegisters}
-use Rattle.p9_refine.proofs.Matching.{run_by, Frame, GoesBack, IsLeast, Stacked, Matches, KeptSame, AllKeptSame, stacked-same, IsHigh, AreHigh, stacked-high}
+use Rattle.p9_refine.proofs.Matching.{run_by, Frame, GoesBack, IsLeast, IsInside, Stacked, Matches, KeptSame, AllKeptSame, stacked-same, IsHigh, AreHigh, stacked-high}
 
 -- the calls that wait when a function is entered: the last goes on at the address in R31, and its return address is at R29
 abbrev pub Waiting : List AModule → (line : ℕ → ℕ) → (link : ℕ) → (word : ℕ → ℕ) → (sp : ℕ) → List Active → Type 0
@@ -39,6 +39,7 @@ Waiting modules line link word sp [] = Unit {0}
 Waiting modules line link word sp (b ∷ bs) =
     (link ≡ line (instruction_line modules b.routine b.after))
     × IsLeast modules line (instruction_line modules b.routine b.after)
+    × IsInside modules b.routine b.after
     × (b.kept ≡ Some sp)
     × Stacked modules line link word sp b.routine b.kept bs
 
@@ -51,14 +52,15 @@ entered-stack modules line link new before now sp low g kept (b ∷ bs) s sum ba
   s,
   subst (GoesBack new now kept) w.0 back,
   w.1,
-  w.2 ∙ ap Some (sym sum),
+  w.2,
+  w.3 ∙ ap Some (sym sum),
   subst (λ n. Stacked modules line new now n b.routine b.kept bs) (sym sum)
       (stacked-same modules line link new before now sp b.routine b.kept bs (kept-same b.kept high.0) (all-kept-same bs high.1)
-      (λ e. absurd (none-some sp (sym e ∙ w.2))) w.3),
+      (λ e. absurd (none-some sp (sym e ∙ w.3))) w.4),
 )
   where
     high : IsHigh sp b.kept × AreHigh sp bs
-    high = stacked-high modules line link before sp b.routine b.kept bs w.3
+    high = stacked-high modules line link before sp b.routine b.kept bs w.4
 
     kept-same : (o : Option ℕ) → IsHigh sp o → KeptSame before now o
     kept-same None h = tt
@@ -69,11 +71,11 @@ entered-stack modules line link new before now sp low g kept (b ∷ bs) s sum ba
     all-kept-same (c ∷ cs) h = (kept-same c.kept h.0, all-kept-same cs h.1)
 
 -- where an entry leads, in at most four lines
-abbrev pub EntersAs : List AModule → (ℕ → ℕ) → ℕ → Straight → Status → Type 0
-EntersAs modules line data_start from (Going r) =
-    (c : ℕ) × (c ≤ 4) × Matches modules line r (run_by modules line data_start c from)
-EntersAs modules line data_start from (Gone s) = ⊥
-EntersAs modules line data_start from Broken = Unit {0}
+abbrev pub EntersAs : List AModule → (ℕ → ℕ) → Placing → Straight → Status → Type 0
+EntersAs modules line placing from (Going r) =
+    (c : ℕ) × (c ≤ 4) × Matches modules line r (run_by modules line placing c from)
+EntersAs modules line placing from (Gone s) = ⊥
+EntersAs modules line placing from Broken = Unit {0}
 
 -- a state before the entry of a function
 pub record Entering (modules : List AModule) (line : ℕ → ℕ) (g : ℕ) (rg : Routine) (s : State) (callers : List Active) : Type 0 where
@@ -89,7 +91,7 @@ pub record Entering (modules : List AModule) (line : ℕ → ℕ) (g : ℕ) (rg 
   pub link : IsWord (reg s.core 31)
   pub waiting : Waiting modules line (reg s.core 31) (λ k. read_word s.core k) (reg s.core 29) callers
 
-module _ (modules : List AModule) (line : ℕ → ℕ) (data_start g : ℕ) (rg : Routine) (s : State) (callers : List Active) (v : Entering modules line g rg s callers) (t : ℕ) (k : Rest) where
+module _ (modules : List AModule) (line : ℕ → ℕ) (placing : Placing) (g : ℕ) (rg : Routine) (s : State) (callers : List Active) (v : Entering modules line g rg s callers) (t : ℕ) (k : Rest) where
   abbrev from : Straight
   from = stands t k s (function_line modules g)
 
@@ -113,7 +115,7 @@ module _ (modules : List AModule) (line : ℕ → ℕ) (data_start g : ℕ) (rg 
   }
 
   -- a function that leaves its return address in R31
-  plain-entry : keeps rg.def ≡ false → EntersAs modules line data_start (stands t k s (function_line modules g)) (at_first s g None callers)
+  plain-entry : keeps rg.def ≡ false → EntersAs modules line placing (stands t k s (function_line modules g)) (at_first s g None callers)
   plain-entry keep =
       let none : taken_by rg.def ≡ 0 = ap (λ b. if b then rg.def.frame + 4 else 0) keep in
       let no_lines : length (entry_lines (setting_of rg)) ≡ 0 = ap (λ b. length (if b then lower_lines (taken_by rg.def) ++ plain (i.Sw 29 31 0) ∷ [] else [])) keep in
@@ -130,7 +132,7 @@ module _ (modules : List AModule) (line : ℕ → ℕ) (data_start g : ℕ) (rg 
         record {
           temporary = t;
           rest = k;
-          same = run-none (addresses_by modules line data_start) (program_lines modules) from
+          same = run-none (addresses_by modules line placing) (program_lines modules) from
               ∙ ap (λ n. stands t k s n) (let e : function_line modules g ≡ instruction_line modules g 0 = omega (arith, behind-entry, no_lines) in e);
           running = v.running;
           registers = v.registers;
@@ -142,7 +144,7 @@ module _ (modules : List AModule) (line : ℕ → ℕ) (data_start g : ℕ) (rg 
 
   -- a function that keeps its return address, where there is room for its frame
   kept-fits : keeps rg.def ≡ true → stack_start + (rg.def.frame + 4) ≤ reg s.core 29 →
-      EntersAs modules line data_start (stands t k s (function_line modules g))
+      EntersAs modules line placing (stands t k s (function_line modules g))
       (at_first (entered_by (rg.def.frame + 4) s) g (Some (reg s.core 29 - (rg.def.frame + 4))) callers)
   kept-fits keep fits =
       let m : ℕ = rg.def.frame + 4 in
@@ -157,7 +159,7 @@ module _ (modules : List AModule) (line : ℕ → ℕ) (data_start g : ℕ) (rg 
       let d : Core = record c { stack = with_word_in c.order c.stack (low - stack_start) value } in
       let written : with_word c low value ≡ d = written-to-stack c low value high in
       let h : Site = record {
-        addresses = addresses_by modules line data_start;
+        addresses = addresses_by modules line placing;
         lines = program_lines modules;
         place = line_of modules;
         setting = setting_of rg;
@@ -180,7 +182,7 @@ module _ (modules : List AModule) (line : ℕ → ℕ) (data_start g : ℕ) (rg 
         free = (let e : sp - taken_by rg.def ≡ low = omega (arith, taken) in subst (λ n. 4 ≤ writable s.core n) (sym e) (stack-writable s.core low v.laid high inside));
         there = stand-entry.there;
       }) in
-      let arrived : run_by modules line data_start entry.lines from ≡ stands entry.temporary entry.rest (entered_by m s) (instruction_line modules g 0) =
+      let arrived : run_by modules line placing entry.lines from ≡ stands entry.temporary entry.rest (entered_by m s) (instruction_line modules g 0) =
       entry.run
       ∙ ap (λ n. stands entry.temporary entry.rest (entered_by n s) (function_line modules g + length (entry_lines (setting_of rg)))) taken
       ∙ ap (λ n. stands entry.temporary entry.rest (entered_by m s) n) (sym behind-entry) in
@@ -222,19 +224,19 @@ module _ (modules : List AModule) (line : ℕ → ℕ) (data_start g : ℕ) (rg 
         },
       )
 
-  kept-enters : keeps rg.def ≡ true → EntersAs modules line data_start (stands t k s (function_line modules g)) (kept_entry rg.def s g callers)
+  kept-enters : keeps rg.def ≡ true → EntersAs modules line placing (stands t k s (function_line modules g)) (kept_entry rg.def s g callers)
   kept-enters keep = by (nat_le (stack_start + (rg.def.frame + 4)) (reg s.core 29)) refl
     where
       by : (b : Bool) → nat_le (stack_start + (rg.def.frame + 4)) (reg s.core 29) ≡ b →
-          EntersAs modules line data_start (stands t k s (function_line modules g))
+          EntersAs modules line placing (stands t k s (function_line modules g))
           (if b then at_first (entered_by (rg.def.frame + 4) s) g (Some (reg s.core 29 - (rg.def.frame + 4))) callers else Broken)
       by true e = kept-fits keep (let fits : stack_start + (rg.def.frame + 4) ≤ reg s.core 29 = grind (arith, nat_tests) in fits)
       by false e = tt
 
-  pub entry-enters : EntersAs modules line data_start (stands t k s (function_line modules g)) (entered rg.def s g callers)
+  pub entry-enters : EntersAs modules line placing (stands t k s (function_line modules g)) (entered rg.def s g callers)
   entry-enters = by (keeps rg.def) refl
     where
       by : (b : Bool) → keeps rg.def ≡ b →
-          EntersAs modules line data_start (stands t k s (function_line modules g)) (if b then kept_entry rg.def s g callers else at_first s g None callers)
+          EntersAs modules line placing (stands t k s (function_line modules g)) (if b then kept_entry rg.def s g callers else at_first s g None callers)
       by true e = kept-enters e
       by false e = plain-entry e

@@ -20,7 +20,7 @@ use Rattle.p9_text.specs.Entries.{entry_number}
 use Rattle.p9_pieces.specs.Callees.{callee_in}
 use Rattle.p9_expand.specs.Program.{program_lines}
 use Rattle.p9_expand_laws.specs.Standing.{entry_of}
-use Rattle.p9_refine.specs.Maps.{places_by, function_line, IsMap, placing_by}
+use Rattle.p9_refine.specs.Maps.{function_line, IsMap, GoesBy}
 use Rattle.p9_refine.proofs.Numbers.{function-within, functions-rise}
 use Rattle.p9_refine.proofs.Own.{own, order, stands_for_itself}
 
@@ -111,27 +111,24 @@ routine-numbers d q h =
 own-routine : (r : Routine) → is_routine (own r) r ≡ true
 own-routine r = and_from (r.unit == r.unit) (r.symbol == r.symbol) (grind (arith, nat_tests)) (grind (arith, nat_tests))
 
-module _ (modules : List AModule) (line : ℕ → ℕ) (data_start : ℕ) (valid : All IsValid modules) (once : IsKept Once (linked modules)) (map : IsMap modules line data_start) where
+module _ (modules : List AModule) (line : ℕ → ℕ) (placing : Placing) (valid : All IsValid modules) (once : IsKept Once (linked modules)) (m : IsMap modules line) (goes : GoesBy modules line placing) where
   abbrev rs : List Routine
   rs = routines_of modules
 
-  abbrev placing : Placing
-  placing = placing_by modules line data_start
-
   abbrev places : runs.Addresses
-  places = addresses_of modules (placing_by modules line data_start)
+  places = addresses_of modules placing
 
   one-address : (f g : ℕ) (q r : Routine) → slice_get (routines_of modules) f ≡ Some q → slice_get (routines_of modules) g ≡ Some r →
       line (function_line modules f) ≡ line (function_line modules g) → f ≡ g
   one-address f g q r e h same = by (order f g)
     where
       by : (f < g) ⊎ ((f ≡ g) ⊎ (g < f)) → f ≡ g
-      by (inl l) = absurd (omega (arith, map.apart g (function_line modules f) r h (functions-rise modules valid f q e g l), same))
+      by (inl l) = absurd (omega (arith, m.apart g (function_line modules f) r h (functions-rise modules valid f q e g l), same))
       by (inr (inl l)) = l
-      by (inr (inr l)) = absurd (omega (arith, map.apart f (function_line modules g) q e (functions-rise modules valid g r h f l), same))
+      by (inr (inr l)) = absurd (omega (arith, m.apart f (function_line modules g) q e (functions-rise modules valid g r h f l), same))
 
   -- the function at an address has its first line there
-  pub called-there : (to g : ℕ) → routine_at (places_by modules line data_start) (routines_of modules) 0 to ≡ Some g →
+  pub called-there : (to g : ℕ) → routine_at (addresses_of modules placing) (routines_of modules) 0 to ≡ Some g →
       (r : Routine) × (slice_get (routines_of modules) g ≡ Some r) × (to ≡ line (function_line modules g))
   called-there to g e =
       let (i, zero_is, least) = address-least places rs 0 to g e in
@@ -155,9 +152,10 @@ module _ (modules : List AModule) (line : ℕ → ℕ) (data_start : ℕ) (valid
           let numbers = routine-numbers (own least.routine) f.routine f.is in
           let address : places.symbol f.routine.unit f.routine.symbol ≡ to =
           ap (λ u. places.symbol u f.routine.symbol) numbers.0 ∙ ap (places.symbol least.routine.unit) numbers.1 ∙ least.is in
-          let here : to ≡ line (function_line modules h) = to_is ∙ ap (placed_at modules placing (own least.routine)) e2 in
+          let here : to ≡ line (function_line modules j) =
+          to_is ∙ ap (placed_at modules placing (own least.routine)) e2 ∙ ap placing.function (let e : h ≡ j = omega (arith, h_is) in e) ∙ goes.functions j f.routine f.there in
           let equal : j ≡ i = equal-numbers j (order j i) f address in
-          here ∙ ap (λ n. line (function_line modules n)) (omega (arith, h_is, equal, same))
+          here ∙ ap (λ n. line (function_line modules n)) (omega (arith, equal, same))
         where
           equal-numbers : (j : ℕ) → (j < i) ⊎ ((j ≡ i) ⊎ (i < j)) → (f : IsFound rs (own least.routine) j) → places.symbol f.routine.unit f.routine.symbol ≡ to → j ≡ i
           equal-numbers j (inl l) f address = absurd (least.first j f.routine l f.there address)
@@ -166,23 +164,23 @@ module _ (modules : List AModule) (line : ℕ → ℕ) (data_start : ℕ) (valid
 
   -- a symbol names the function at its address
   pub named-there : (unit symbol g : ℕ) →
-      routine_at (places_by modules line data_start) (routines_of modules) 0 ((places_by modules line data_start).symbol unit symbol) ≡ Some g →
+      routine_at (addresses_of modules placing) (routines_of modules) 0 ((addresses_of modules placing).symbol unit symbol) ≡ Some g →
       callee_in modules unit symbol ≡ Some (entry_of modules g)
   named-there unit symbol g e =
       let (r, there, here) = called-there (places.symbol unit symbol) g e in
       by-definition r there (definition_of (linked modules) (record { «module» = unit; symbol = symbol })) here
     where
-      in-text : (r : Routine) → slice_get rs g ≡ Some r → (text_start ≤ line (function_line modules g)) × (line (function_line modules g) < data_start)
+      in-text : (r : Routine) → slice_get rs g ≡ Some r → (text_start ≤ line (function_line modules g)) × (line (function_line modules g) < placing.data_start)
       in-text r there =
           let l : function_line modules g < length (program_lines modules) = function-within modules valid g r there in
-          ((map.code (function_line modules g) l).1, map.before_data (function_line modules g) l)
+          ((m.code (function_line modules g) l).1, goes.before_data (function_line modules g) l)
 
       by-number : (r : Routine) → slice_get rs g ≡ Some r → (d : Def) (o : Option ℕ) → routine_number rs 0 d ≡ o → placed_at modules placing d o ≡ line (function_line modules g) →
           entry_number rs 0 d ≡ Some (entry_of modules g)
       by-number r there d None e here = absurd (let high = (in-text r there).1 in omega (arith, here, high))
       by-number r there d (Some h) e here =
           let (j, h_is, f) = number-found rs 0 d h e in
-          let same : line (function_line modules j) ≡ line (function_line modules g) = ap (λ n. line (function_line modules n)) (let e : j ≡ h = omega (arith, h_is) in e) ∙ here in
+          let same : line (function_line modules j) ≡ line (function_line modules g) = sym (goes.functions j f.routine f.there) ∙ ap placing.function (let e : j ≡ h = omega (arith, h_is) in e) ∙ here in
           let equal : j ≡ g = one-address j g f.routine r f.there there same in
           entry-found rs 0 d j f ∙ ap Some (let e : 0 + entry_of modules j ≡ entry_of modules j = omega arith in e) ∙ ap (λ n. Some (entry_of modules n)) equal
 

@@ -12,7 +12,7 @@ use Rattle.p9_abs.specs.Forms.{weight_of, decoded}
 use Rattle.p9_abs.specs.Steps.{Mach, Around, Step, Next, Turns, Calls, Returns, Exits, Undefined, acts_as, at_instruction, without_text, acts, step}
 use Rattle.p9_abs.specs.Laws.{IfMach}
 use Rattle.p9_abs.specs.Runs.{Routine, keeps, taken_by, Run, Status, Going, Gone, Broken, is_kept, around_of, stepped}
-use Rattle.p9_abs.specs.Programs.{routines_of}
+use Rattle.p9_abs.specs.Programs.{addresses_of, Placing, routines_of}
 use Rattle.p9_abs.specs.Validity.{IsInstruction}
 use Rattle.p9_abs.proofs.StepLaws.{memory_stays}
 use Rattle.p9_abs.proofs.Fixed.{stack_stays, banned_stay}
@@ -27,7 +27,7 @@ use Rattle.p9_expand.specs.Program.{program_lines}
 use Rattle.p9_expand.proofs.Valid.{IsSound, all_sound}
 use Rattle.p9_expand_laws.specs.Standing.{entry_of, line_of, scope_in, StandsAt}
 use Rattle.p9_expand_laws.proofs.Standing.{instructions_stand}
-use Rattle.p9_refine.specs.Maps.{places_by, instruction_line, addresses_by}
+use Rattle.p9_refine.specs.Maps.{instruction_line, addresses_by}
 use Rattle.p9_refine.specs.Refining.{HasExited}
 use Rattle.p9_refine.proofs.Numbers.{all-at}
 use Rattle.p9_refine.proofs.Fine.{LabelWithin, all-valid}
@@ -35,21 +35,21 @@ use Rattle.p9_refine.proofs.Plain.{GoesOn, IsRegularStep}
 use Rattle.p9_refine.proofs.Matching.{run_by, Frame, frame-of, Matches, stacked-banned}
 
 -- Where a status comes, in 1 to 7 lines
-abbrev pub Leads : List AModule → (ℕ → ℕ) → ℕ → Straight → Status → Type 0
-Leads modules line data_start from (Going r) =
-    (c : ℕ) × (1 ≤ c) × (c ≤ 7) × Matches modules line r (run_by modules line data_start c from)
-Leads modules line data_start from (Gone s) =
-    HasExited s.core.ending × ((at : ℕ) × Arrives (addresses_by modules line data_start) (program_lines modules) from s at)
-Leads modules line data_start from Broken = Unit {0}
+abbrev pub Leads : List AModule → (ℕ → ℕ) → Placing → Straight → Status → Type 0
+Leads modules line placing from (Going r) =
+    (c : ℕ) × (1 ≤ c) × (c ≤ 7) × Matches modules line r (run_by modules line placing c from)
+Leads modules line placing from (Gone s) =
+    HasExited s.core.ending × ((at : ℕ) × Arrives (addresses_by modules line placing) (program_lines modules) from s at)
+Leads modules line placing from Broken = Unit {0}
 
 -- what the code of a function stands in
-abbrev pub around_by : List AModule → (ℕ → ℕ) → ℕ → Routine → Run → Around
-around_by modules line data_start rt r = around_of (places_by modules line data_start) rt r
+abbrev pub around_by : List AModule → (ℕ → ℕ) → Placing → Routine → Run → Around
+around_by modules line placing rt r = around_of (addresses_of modules placing) rt r
 
 -- where an instruction's lines stand
-abbrev pub site : List AModule → (ℕ → ℕ) → (data_start f k : ℕ) → Routine → Form → Site
-site modules line data_start f k rt form = record {
-  addresses = addresses_by modules line data_start;
+abbrev pub site : List AModule → (ℕ → ℕ) → (placing : Placing) → (f k : ℕ) → Routine → Form → Site
+site modules line placing f k rt form = record {
+  addresses = addresses_by modules line placing;
   lines = program_lines modules;
   place = line_of modules;
   setting = (scope_in modules f rt).setting;
@@ -90,7 +90,7 @@ taken-small rt v = by (keeps rt.def)
 
 -- A run before an instruction
 
-pub record Before (modules : List AModule) (line : ℕ → ℕ) (data_start : ℕ) (r : Run) (rt : Routine) (a : Abs) (form : Form) (y : Straight) : Type 0 where
+pub record Before (modules : List AModule) (line : ℕ → ℕ) (placing : Placing) (r : Run) (rt : Routine) (a : Abs) (form : Form) (y : Straight) : Type 0 where
   pub objects : All IsObject modules
   pub matches : Matches modules line r y
   pub found : slice_get (routines_of modules) r.routine ≡ Some rt
@@ -99,12 +99,12 @@ pub record Before (modules : List AModule) (line : ℕ → ℕ) (data_start : �
   pub fine : IsFine form
   pub label : LabelWithin (length rt.def.code) form
 
-module _ (modules : List AModule) (line : ℕ → ℕ) (data_start : ℕ) (r : Run) (rt : Routine) (a : Abs) (form : Form) (y : Straight) (b : Before modules line data_start r rt a form y) where
+module _ (modules : List AModule) (line : ℕ → ℕ) (placing : Placing) (r : Run) (rt : Routine) (a : Abs) (form : Form) (y : Straight) (b : Before modules line placing r rt a form y) where
   abbrev x : Mach
   x = without_text r.mach
 
   abbrev around : Around
-  around = around_of (places_by modules line data_start) rt r
+  around = around_of (addresses_of modules placing) rt r
 
   pub sound-here : IsSound rt
   sound-here = all-at IsSound (routines_of modules) r.routine rt (all_sound modules (all-valid modules b.objects)) b.found
@@ -119,7 +119,7 @@ module _ (modules : List AModule) (line : ℕ → ℕ) (data_start : ℕ) (r : R
       (lines_of (scope_in modules r.routine rt).setting (way_of (scope_in modules r.routine rt) r.mach.at form) form)
   stand-here = instructions_stand modules r.routine r.mach.at rt a form (all-valid modules b.objects) b.found b.there b.decodes
 
-  pub usual-here : IsUsual (site modules line data_start r.routine r.mach.at rt form) (around_by modules line data_start rt r) form (without_text r.mach)
+  pub usual-here : IsUsual (site modules line placing r.routine r.mach.at rt form) (around_by modules line placing rt r) form (without_text r.mach)
   usual-here = record {
     running = b.matches.running;
     count = b.matches.registers.count;
@@ -136,8 +136,8 @@ module _ (modules : List AModule) (line : ℕ → ℕ) (data_start : ℕ) (r : R
   }
 
   -- the step of an instruction is that of its form
-  pub step-here : step (around_by modules line data_start rt r) rt.def.code r.mach
-      ≡ acts (around_by modules line data_start rt r) form (without_text r.mach)
+  pub step-here : step (around_by modules line placing rt r) rt.def.code r.mach
+      ≡ acts (around_by modules line placing rt r) form (without_text r.mach)
   unfolding step
   step-here = ap (λ o. at_instruction around o x) b.there ∙ ap (λ o. acts_as around o x) b.decodes
 
@@ -147,7 +147,7 @@ module _ (modules : List AModule) (line : ℕ → ℕ) (data_start : ℕ) (r : R
     pub fixed : IfMach (λ z. (reg z.state.core 29 ≡ reg r.mach.state.core 29) × (reg z.state.core 30 ≡ reg r.mach.state.core 30) × (reg z.state.core 31 ≡ reg r.mach.state.core 31)) s
     pub banned : (p : ℕ) → stack_start ≤ p → is_kept r p ≡ true → IfMach (λ z. read_byte z.state.core p ≡ read_byte r.mach.state.core p) s
 
-  pub leaves-here : Leaves (acts (around_by modules line data_start rt r) form (without_text r.mach))
+  pub leaves-here : Leaves (acts (around_by modules line placing rt r) form (without_text r.mach))
   leaves-here = record {
     memory = subst (IfMach (λ z. KeepsText x.state.core z.state.core)) step-here (memory_stays around rt.def.code r.mach b.matches.laid);
     fixed =
@@ -170,8 +170,8 @@ module _ (modules : List AModule) (line : ℕ → ℕ) (data_start : ℕ) (r : R
       }
 
   -- the next instruction
-  goes-on : (z : Mach) → Leaves (Next z) → IsRegularStep x (Next z) → Arrives (addresses_by modules line data_start) (program_lines modules) y z.state (line_of modules (entry_of modules r.routine + 1 + r.mach.at + 1)) →
-      Leads modules line data_start y (Going (record r { mach = z }))
+  goes-on : (z : Mach) → Leaves (Next z) → IsRegularStep x (Next z) → Arrives (addresses_by modules line placing) (program_lines modules) y z.state (line_of modules (entry_of modules r.routine + 1 + r.mach.at + 1)) →
+      Leads modules line placing y (Going (record r { mach = z }))
   goes-on z l g arrives = (
     arrives.count,
     arrives.some,
@@ -188,8 +188,8 @@ module _ (modules : List AModule) (line : ℕ → ℕ) (data_start : ℕ) (r : R
   )
 
   -- a step that only goes on or exits
-  pub plain-leads : (s : Step) → GoesOn s → IsRegularStep (without_text r.mach) s → Leaves s → Follows (site modules line data_start r.routine r.mach.at rt form) form y s →
-      Leads modules line data_start y (stepped (places_by modules line data_start) (routines_of modules) rt r s)
+  pub plain-leads : (s : Step) → GoesOn s → IsRegularStep (without_text r.mach) s → Leaves s → Follows (site modules line placing r.routine r.mach.at rt form) form y s →
+      Leads modules line placing y (stepped (addresses_of modules placing) (routines_of modules) rt r s)
   plain-leads (Next z) on g l f = goes-on z l g f
   plain-leads (Exits z) on g l f = (g, f)
   plain-leads Undefined on g l f = tt
@@ -198,8 +198,8 @@ module _ (modules : List AModule) (line : ℕ → ℕ) (data_start : ℕ) (r : R
   plain-leads (Returns z) on g l f = absurd on
 
   -- to another instruction with the same state
-  pub turns-to : (at : ℕ) → Arrives (addresses_by modules line data_start) (program_lines modules) y (without_text r.mach).state (instruction_line modules r.routine at) →
-      Leads modules line data_start y (Going (record r { mach = record (without_text r.mach) { at = at } }))
+  pub turns-to : (at : ℕ) → Arrives (addresses_by modules line placing) (program_lines modules) y (without_text r.mach).state (instruction_line modules r.routine at) →
+      Leads modules line placing y (Going (record r { mach = record (without_text r.mach) { at = at } }))
   turns-to at arrives = (
     arrives.count,
     arrives.some,
@@ -216,9 +216,9 @@ module _ (modules : List AModule) (line : ℕ → ℕ) (data_start : ℕ) (r : R
   )
 
   pub branch-leads : (taken : Bool) (l : ℕ) → goal_of (scope_in modules r.routine rt) form ≡ Some (entry_of modules r.routine + 1 + l) →
-      Follows (site modules line data_start r.routine r.mach.at rt form) form y (Turns taken (record (without_text r.mach) { at = if taken then l else r.mach.at + 1 })) →
-      Leads modules line data_start y (Going (record r { mach = record (without_text r.mach) { at = if taken then l else r.mach.at + 1 } }))
+      Follows (site modules line placing r.routine r.mach.at rt form) form y (Turns taken (record (without_text r.mach) { at = if taken then l else r.mach.at + 1 })) →
+      Leads modules line placing y (Going (record r { mach = record (without_text r.mach) { at = if taken then l else r.mach.at + 1 } }))
   branch-leads true l goal f = turns-to l (f (entry_of modules r.routine + 1 + l) goal)
   branch-leads false l goal f =
       turns-to (r.mach.at + 1)
-      (subst (λ n. Arrives (addresses_by modules line data_start) (program_lines modules) y x.state (line_of modules n)) (let e : entry_of modules r.routine + 1 + r.mach.at + 1 ≡ entry_of modules r.routine + 1 + (r.mach.at + 1) = omega arith in e) f)
+      (subst (λ n. Arrives (addresses_by modules line placing) (program_lines modules) y x.state (line_of modules n)) (let e : entry_of modules r.routine + 1 + r.mach.at + 1 ≡ entry_of modules r.routine + 1 + (r.mach.at + 1) = omega arith in e) f)

@@ -10,7 +10,7 @@ use Rattle.p9_abs.specs.declared.instructions.TextDef.{TextDef}
 use Rattle.p9_abs.specs.declared.modules.AModule.{AModule}
 use Rattle.p9_abs.specs.Steps.{without_text}
 use Rattle.p9_abs.specs.Runs.{Routine, keeps, taken_by, Active, Run, in_word, kept_by, is_kept}
-use Rattle.p9_abs.specs.Programs.{routines_of}
+use Rattle.p9_abs.specs.Programs.{Placing, routines_of}
 use Rattle.p9_r3k.specs.Straight.{Straight, line_at, straight_run}
 use Rattle.p9_forms.specs.Standing.{Rest, stands}
 use Rattle.p9_expand.specs.Program.{program_lines}
@@ -19,8 +19,8 @@ use Rattle.p9_refine.proofs.Words.{word-same}
 use Rattle.p9_refine.proofs.Plain.{HasRegisters}
 
 -- so many lines of a straight run
-abbrev pub run_by : List AModule → (line : ℕ → ℕ) → (data_start count : ℕ) → Straight → Straight
-run_by modules line data_start count from = straight_run (addresses_by modules line data_start) (program_lines modules) count from
+abbrev pub run_by : List AModule → (line : ℕ → ℕ) → (placing : Placing) → (count : ℕ) → Straight → Straight
+run_by modules line placing count from = straight_run (addresses_by modules line placing) (program_lines modules) count from
 
 -- Active calls
 
@@ -46,6 +46,10 @@ GoesBack link word (Some k) to = word k ≡ to
 abbrev pub IsLeast : List AModule → (ℕ → ℕ) → ℕ → Type 0
 IsLeast modules line n = line_at line (line n) 0 (length (program_lines modules)) ≡ Some n
 
+-- a function has this instruction
+abbrev pub IsInside : List AModule → (f k : ℕ) → Type 0
+IsInside modules f k = (q : Routine) → slice_get (routines_of modules) f ≡ Some q → k < length q.def.code
+
 -- each active call goes back to its caller, which keeps its own return address above
 abbrev pub Stacked : List AModule → (line : ℕ → ℕ) → (link : ℕ) → (word : ℕ → ℕ) → (sp f : ℕ) → Option ℕ → List Active → Type 0
 Stacked modules line link word sp f kept [] = Frame modules sp f kept
@@ -53,6 +57,7 @@ Stacked modules line link word sp f kept (b ∷ bs) =
     (s : Frame modules sp f kept)
     × GoesBack link word kept (line (instruction_line modules b.routine b.after))
     × IsLeast modules line (instruction_line modules b.routine b.after)
+    × IsInside modules b.routine b.after
     × (b.kept ≡ Some (sp + taken_by s.routine.def))
     × Stacked modules line link word (sp + taken_by s.routine.def) b.routine b.kept bs
 
@@ -101,8 +106,9 @@ stacked-same modules line link new before now sp f kept (b ∷ bs) h hs one s = 
   goes-back-same link new before now kept (line (instruction_line modules b.routine b.after)) h one s.1,
   s.2,
   s.3,
+  s.4,
   stacked-same modules line link new before now (sp + taken_by s.0.routine.def) b.routine b.kept bs hs.0 hs.1
-      (λ e. absurd (none-some (sp + taken_by s.0.routine.def) (sym e ∙ s.3))) s.4,
+      (λ e. absurd (none-some (sp + taken_by s.0.routine.def) (sym e ∙ s.4))) s.5,
 )
 
 -- Where words are kept: in the stack, at or above R29
@@ -139,7 +145,7 @@ pub stacked-high : (modules : List AModule) (line : ℕ → ℕ) (link : ℕ) (w
     Stacked modules line link word sp f kept bs → IsHigh sp kept × AreHigh sp bs
 stacked-high modules line link word sp f kept [] s = (frame-high modules sp f kept s, tt)
 stacked-high modules line link word sp f kept (b ∷ bs) s =
-    let above = stacked-high modules line link word (sp + taken_by s.0.routine.def) b.routine b.kept bs s.4 in
+    let above = stacked-high modules line link word (sp + taken_by s.0.routine.def) b.routine b.kept bs s.5 in
     (frame-high modules sp f kept s.0, (high-lower sp (taken_by s.0.routine.def) b.kept above.0, all-high-lower sp (taken_by s.0.routine.def) bs above.1))
 
 -- Words whose bytes may not be touched

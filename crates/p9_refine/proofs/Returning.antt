@@ -12,14 +12,15 @@ use Rattle.p9_abs.specs.declared.instructions.Abs.{Abs}
 use Rattle.p9_abs.specs.declared.modules.AModule.{AModule}
 use Rattle.p9_abs.specs.declared.forms.Form.TheVariants as forms
 use Rattle.p9_abs.specs.Steps.{Mach, Returns, without_text}
-use Rattle.p9_abs.specs.Runs.{Routine, keeps, taken_by, Active, Run, Status, Going, linked_to, returned}
+use Rattle.p9_abs.specs.Programs.{addresses_of, Placing}
+use Rattle.p9_abs.specs.Runs.{Routine, keeps, taken_by, Active, Run, Status, Going, linked_to, raised, returned}
 use Rattle.p9_r3k.specs.Straight.{Straight}
 use Rattle.p9_forms.specs.Standing.{Arrives}
 use Rattle.p9_forms.specs.Following.{Follows, IsKeptReturn, raised_by}
 use Rattle.p9_expand.specs.Program.{program_lines}
-use Rattle.p9_refine.specs.Maps.{places_by, instruction_line, addresses_by}
+use Rattle.p9_refine.specs.Maps.{instruction_line, GoesBy, addresses_by}
 use Rattle.p9_refine.proofs.Words.{stack-loaded}
-use Rattle.p9_refine.proofs.Matching.{Frame, GoesBack, Stacked, KeptSame, all-same, stacked-same}
+use Rattle.p9_refine.proofs.Matching.{Frame, frame-of, GoesBack, Stacked, KeptSame, all-same, stacked-same}
 use Rattle.p9_refine.proofs.Leading.{Leads, site, Before}
 
 -- words that no instruction changed
@@ -27,7 +28,7 @@ same-words : (word : ℕ → ℕ) (kept : Option ℕ) → KeptSame word word kep
 same-words word None = tt
 same-words word (Some k) = refl
 
-module _ (modules : List AModule) (line : ℕ → ℕ) (data_start : ℕ) (r : Run) (rt : Routine) (a : Abs) (y : Straight) (b : Before modules line data_start r rt a forms.Return y) where
+module _ (modules : List AModule) (line : ℕ → ℕ) (placing : Placing) (r : Run) (rt : Routine) (a : Abs) (y : Straight) (b : Before modules line placing r rt a forms.Return y) (goes : GoesBy modules line placing) where
   abbrev x : Mach
   x = without_text r.mach
 
@@ -41,8 +42,8 @@ module _ (modules : List AModule) (line : ℕ → ℕ) (data_start : ℕ) (r : R
   abbrev back_in : Active → List Active → State → Status
   back_in c cs s = Going (record { mach = record { state = s; vars = []; at = c.after }; routine = c.routine; kept = c.kept; callers = cs })
 
-  pub returns-lead : Follows (site modules line data_start r.routine r.mach.at rt forms.Return) forms.Return y (Returns (without_text r.mach)) →
-      Leads modules line data_start y (returned (places_by modules line data_start) rt.def (without_text r.mach) r.callers)
+  pub returns-lead : Follows (site modules line placing r.routine r.mach.at rt forms.Return) forms.Return y (Returns (without_text r.mach)) →
+      Leads modules line placing y (returned (addresses_of modules placing) rt.def (without_text r.mach) r.callers)
   returns-lead f = by r.callers b.matches.stack
     where
       by-keeping : (c : Active) (cs : List Active) (s : Frame modules sp r.routine r.kept) → GoesBack (reg r.mach.state.core 31) word r.kept (line (instruction_line modules c.routine c.after)) →
@@ -50,9 +51,9 @@ module _ (modules : List AModule) (line : ℕ → ℕ) (data_start : ℕ) (r : R
           Stacked modules line (reg r.mach.state.core 31) word (sp + (if q then rt.def.frame + 4 else 0)) c.routine c.kept cs →
           (IsKeptReturn q x.state (line (instruction_line modules c.routine c.after)) →
           (let l : State = linked_to (line (instruction_line modules c.routine c.after)) x.state in
-          Arrives (addresses_by modules line data_start) (program_lines modules) y (if q then raised_by (if q then rt.def.frame + 4 else 0) l else l) (instruction_line modules c.routine c.after))) →
+          Arrives (addresses_by modules line placing) (program_lines modules) y (if q then raised_by (if q then rt.def.frame + 4 else 0) l else l) (instruction_line modules c.routine c.after))) →
           (let l : State = linked_to (line (instruction_line modules c.routine c.after)) x.state in
-          Leads modules line data_start y (back_in c cs (if q then raised_by (rt.def.frame + 4) l else l)))
+          Leads modules line placing y (back_in c cs (if q then raised_by (rt.def.frame + 4) l else l)))
       by-keeping c cs s back true kept below keeps stack arrives =
           let to : ℕ = line (instruction_line modules c.routine c.after) in
           let m : ℕ = rt.def.frame + 4 in
@@ -113,13 +114,16 @@ module _ (modules : List AModule) (line : ℕ → ℕ) (data_start : ℕ) (r : R
           )
 
       by : (cs : List Active) → Stacked modules line (reg r.mach.state.core 31) word sp r.routine r.kept cs →
-          Leads modules line data_start y (returned (places_by modules line data_start) rt.def x cs)
+          Leads modules line placing y (returned (addresses_of modules placing) rt.def x cs)
       by [] s = tt
       by (c ∷ cs) s =
           let same : s.0.routine ≡ rt = same_Some s.0.routine rt (sym s.0.found ∙ b.found) in
-          by-keeping c cs s.0 s.1 (keeps rt.def)
+          let caller = frame-of modules line (reg r.mach.state.core 31) word (sp + taken_by s.0.routine.def) c.routine c.kept cs s.5 in
+          subst (λ z. Leads modules line placing y (back_in c cs (raised rt.def (linked_to z x.state))))
+          (sym (goes.instructions c.routine c.after caller.routine caller.found (s.3 caller.routine caller.found)))
+          (by-keeping c cs s.0 s.1 (keeps rt.def)
           (s.0.kept_is ∙ ap (λ (q : Routine). if keeps q.def then Some sp else None) same)
           (subst (λ (q : Routine). sp + taken_by q.def ≤ stack_end) same s.0.below)
-          (s.3 ∙ ap (λ (q : Routine). Some (sp + taken_by q.def)) same)
-          (subst (λ (q : Routine). Stacked modules line (reg r.mach.state.core 31) word (sp + taken_by q.def) c.routine c.kept cs) same s.4)
-          (λ e. f (line (instruction_line modules c.routine c.after)) (instruction_line modules c.routine c.after) e s.2)
+          (s.4 ∙ ap (λ (q : Routine). Some (sp + taken_by q.def)) same)
+          (subst (λ (q : Routine). Stacked modules line (reg r.mach.state.core 31) word (sp + taken_by q.def) c.routine c.kept cs) same s.5)
+          (λ e. f (line (instruction_line modules c.routine c.after)) (instruction_line modules c.routine c.after) e s.2))

@@ -31,7 +31,7 @@ use Rattle.p9_expand.specs.Base.{argument_list, base_offset}
 use Rattle.p9_expand.specs.Program.{program_lines}
 use Rattle.p9_expand_laws.specs.Standing.{line_of}
 use Rattle.p9_expand_laws.proofs.Standing.{start_stands}
-use Rattle.p9_refine.specs.Maps.{function_line, IsMap, placing_by, addresses_by}
+use Rattle.p9_refine.specs.Maps.{function_line, IsMap, GoesBy, addresses_by}
 use Rattle.p9_refine.specs.Refining.{before_start, at_start, ProgramRefines}
 use Rattle.p9_refine.proofs.Own.{own, HasSymbol, symbols-found, last-module}
 use Rattle.p9_refine.proofs.Finding.{number-found, routine-numbers}
@@ -99,7 +99,7 @@ data-offset-small ms d = omega (arith, offset-small 0 (data_objects ms) d, sum_b
 
 -- The static base
 
-module _ (modules : List AModule) (line : ℕ → ℕ) (data_start : ℕ) where
+module _ (modules : List AModule) (line : ℕ → ℕ) (placing : Placing) where
   abbrev base : Def
   base = record { «module» = length modules; symbol = argument_list }
 
@@ -126,14 +126,14 @@ module _ (modules : List AModule) (line : ℕ → ℕ) (data_start : ℕ) where
       at : ℕ → ℕ → Def
       at unit symbol = record { «module» = unit; symbol = symbol }
 
-  base-address : address_of modules (placing_by modules line data_start) (record { «module» = length modules; symbol = argument_list })
-      ≡ data_start + unwrap_or (offset_in 0 (data_objects (linked modules)) (record { «module» = length modules; symbol = argument_list })) 0
+  base-address : address_of modules placing (record { «module» = length modules; symbol = argument_list })
+      ≡ placing.data_start + unwrap_or (offset_in 0 (data_objects (linked modules)) (record { «module» = length modules; symbol = argument_list })) 0
   base-address =
-      ap (address_of_definition modules (placing_by modules line data_start)) base-itself
-      ∙ ap (placed_at modules (placing_by modules line data_start) base) (no-function (routine_number (routines_of modules) 0 base) refl)
+      ap (address_of_definition modules placing) base-itself
+      ∙ ap (placed_at modules placing base) (no-function (routine_number (routines_of modules) 0 base) refl)
 
-  base-value : data_start + init_size (linked modules) + bss_size (linked modules) < stack_start →
-      word_sum (address_of modules (placing_by modules line data_start) (record { «module» = length modules; symbol = argument_list })) (base_offset modules) ≡ static_base data_start
+  base-value : placing.data_start + init_size (linked modules) + bss_size (linked modules) < stack_start →
+      word_sum (address_of modules placing (record { «module» = length modules; symbol = argument_list })) (base_offset modules) ≡ static_base placing.data_start
   base-value room =
       let o : ℕ = unwrap_or (offset_in 0 (data_objects (linked modules)) base) 0 in
       let small : o ≤ init_size (linked modules) + bss_size (linked modules) = data-offset-small (linked modules) base in
@@ -141,14 +141,11 @@ module _ (modules : List AModule) (line : ℕ → ℕ) (data_start : ℕ) where
 
 -- The start
 
-module _ (modules : List AModule) (line : ℕ → ℕ) (data_start : ℕ) (below input : List ℕ) (objects : All IsObject modules) (once : IsKept Once (linked modules)) (m : IsMap modules line data_start) (size : text_start + length below ≡ data_start) where
-  abbrev placing : Placing
-  placing = placing_by modules line data_start
-
+module _ (modules : List AModule) (line : ℕ → ℕ) (placing : Placing) (below input : List ℕ) (objects : All IsObject modules) (once : IsKept Once (linked modules)) (m : IsMap modules line) (goes : GoesBy modules line placing) (size : text_start + length below ≡ placing.data_start) where
   abbrev first : Routine
   first = record { unit = length modules; symbol = 0; def = record { frame = 8; code = start_code } }
 
-  start-laid : LaidOut (start_core modules (placing_by modules line data_start) below)
+  start-laid : LaidOut (start_core modules placing below)
   start-laid =
       let bytes : List ℕ = init_bytes modules placing in
       let low : length (below ++ bytes ++ zero_bytes (bss_size (linked modules))) ≡ length below + init_size (linked modules) + bss_size (linked modules) =
@@ -163,29 +160,29 @@ module _ (modules : List AModule) (line : ℕ → ℕ) (data_start : ℕ) (below
         text = omega arith;
         gap = omega (arith, size);
         data_and_bss = omega (arith, size, low);
-        above = omega (arith, size, low, m.room);
+        above = omega (arith, size, low, goes.room);
         stack_size = zero-length (2 ^ 24);
       }
 
   -- the lines of the start
-  started : (k : Rest) × (run_by modules line data_start 2 (at_start modules (placing_by modules line data_start) below input)
-      ≡ stands 0 k (start_state modules (placing_by modules line data_start) below input) (function_line modules 0))
+  started : (k : Rest) × (run_by modules line placing 2 (at_start modules placing below input)
+      ≡ stands 0 k (start_state modules placing below input) (function_line modules 0))
   started =
       let s : State = before_start modules placing below input in
       let rest : Rest = record { pc = text_start; next = text_start + 4; slot = false; loaded = 0; used = false; used_before = false; text_end = text_start } in
-      let value : word_sum (address_of modules placing (record { «module» = length modules; symbol = argument_list })) (base_offset modules) ≡ static_base data_start = base-value modules line data_start m.room in
-      let made = start-made (addresses_by modules line data_start) (program_lines modules) (line_of modules) 0 (length modules) argument_list (base_offset modules) s 0 rest
+      let value : word_sum (address_of modules placing (record { «module» = length modules; symbol = argument_list })) (base_offset modules) ≡ static_base placing.data_start = base-value modules line placing goes.room in
+      let made = start-made (addresses_by modules line placing) (program_lines modules) (line_of modules) 0 (length modules) argument_list (base_offset modules) s 0 rest
       (record { running = refl; count = refl; zero_register = refl; textless = refl; stack = omega arith }) (start_stands modules (all-valid modules objects)) in
       (made.0, made.1 ∙ ap (λ v. stands 0 made.0 (based_at v s) 2) value)
 
   first-found : slice_get (routines_of modules) 0 ≡ Some (record { unit = length modules; symbol = 0; def = record { frame = 8; code = start_code } })
   first-found = refl
 
-  start-stays : Stays modules line data_start (at_start modules (placing_by modules line data_start) below input) 0
-      (enters (routines_of modules) (Some 0) (start_state modules (placing_by modules line data_start) below input) [])
+  start-stays : Stays modules line placing (at_start modules placing below input) 0
+      (enters (routines_of modules) (Some 0) (start_state modules placing below input) [])
   start-stays =
       by (entered first.def (start_state modules placing below input) 0 [])
-      (entry-enters modules line data_start 0 first (start_state modules placing below input) [] (record {
+      (entry-enters modules line placing 0 first (start_state modules placing below input) [] (record {
         valid = all-valid modules objects;
         found = first-found;
         running = refl;
@@ -199,25 +196,25 @@ module _ (modules : List AModule) (line : ℕ → ℕ) (data_start : ℕ) (below
         waiting = tt;
       }) 0 started.0)
     where
-      by : (s : Status) → EntersAs modules line data_start (stands 0 started.0 (start_state modules placing below input) (function_line modules 0)) s →
-          Stays modules line data_start (at_start modules placing below input) 0 s
+      by : (s : Status) → EntersAs modules line placing (stands 0 started.0 (start_state modules placing below input) (function_line modules 0)) s →
+          Stays modules line placing (at_start modules placing below input) 0 s
       by (Going r) e = (
         2 + e.0,
         omega arith,
         omega (arith, e.1),
         subst (Matches modules line r)
-            (ap (run_by modules line data_start e.0) (sym started.1)
-            ∙ sym (straight_run-sum (addresses_by modules line data_start) (program_lines modules) 2 e.0 (at_start modules placing below input))) e.2,
+            (ap (run_by modules line placing e.0) (sym started.1)
+            ∙ sym (straight_run-sum (addresses_by modules line placing) (program_lines modules) 2 e.0 (at_start modules placing below input))) e.2,
       )
       by (Gone s) e = absurd e
       by Broken e = tt
 
   pub refines-from : (n : ℕ) →
-      Stays modules line data_start (at_start modules (placing_by modules line data_start) below input) n (arun modules (placing_by modules line data_start) below input n)
+      Stays modules line placing (at_start modules placing below input) n (arun modules placing below input n)
   unfolding arun_of
-  refines-from n = stays modules line data_start objects once m (at_start modules placing below input) (enters (routines_of modules) (Some 0) (start_state modules placing below input) []) start-stays n
+  refines-from n = stays modules line placing objects once m goes (at_start modules placing below input) (enters (routines_of modules) (Some 0) (start_state modules placing below input) []) start-stays n
 
 pub program_refines : ProgramRefines
-program_refines modules line data_start below input n objects once m size =
-    stands-as modules line data_start (at_start modules (placing_by modules line data_start) below input) n (arun modules (placing_by modules line data_start) below input n)
-    (refines-from modules line data_start below input objects once m size n)
+program_refines modules line placing below input n objects once m goes size =
+    stands-as modules line placing (at_start modules placing below input) n (arun modules placing below input n)
+    (refines-from modules line placing below input objects once m goes size n)

@@ -16,7 +16,7 @@ use Rattle.p9_r3k.specs.Straight.{Addresses, Straight, straight_run}
 use Rattle.p9_forms.specs.Standing.{Rest, stands}
 use Rattle.p9_forms.specs.Entering.{based_at}
 use Rattle.p9_expand.specs.Program.{program_lines}
-use Rattle.p9_refine.specs.Maps.{IsMap, placing_by, addresses_by, instruction_line}
+use Rattle.p9_refine.specs.Maps.{IsMap, GoesBy, addresses_by, instruction_line}
 
 -- Runs
 
@@ -52,17 +52,16 @@ before_start modules p below input = based_at 0 (start_state modules p below inp
 abbrev pub at_start : List AModule → Placing → (below input : List ℕ) → Straight
 at_start modules p below input = record { state = before_start modules p below input; at = 0 }
 
--- for objects that define no name twice, each map of addresses, any bytes below the data and any input: after each number
--- of steps
+-- for objects that define no name twice, each map of addresses and each placing that goes by it, any bytes below the data
+-- and any input: after each number of steps
 abbrev pub ProgramRefines : Type 0
 ProgramRefines =
-    (modules : List AModule) (line : ℕ → ℕ) (data_start : ℕ) (below input : List ℕ) (n : ℕ) →
-    (let p : Placing = placing_by modules line data_start in
-    All IsObject modules → IsKept Once (linked modules) → IsMap modules line data_start → text_start + length below ≡ data_start →
-    StandsAs modules (addresses_by modules line data_start) (at_start modules p below input) n (arun modules p below input n))
+    (modules : List AModule) (line : ℕ → ℕ) (p : Placing) (below input : List ℕ) (n : ℕ) →
+    All IsObject modules → IsKept Once (linked modules) → IsMap modules line → GoesBy modules line p → text_start + length below ≡ p.data_start →
+    StandsAs modules (addresses_by modules line p) (at_start modules p below input) n (arun modules p below input n)
 
--- a map of addresses with the data at a page gives a placing
+-- with the data at a page, what goes by a map is a placing
 abbrev pub MapsPlace : Type 0
 MapsPlace =
-    (modules : List AModule) (line : ℕ → ℕ) (data_start : ℕ) → All IsObject modules → IsMap modules line data_start → data_start % 4096 ≡ 0 →
-    IsPlacing modules (placing_by modules line data_start)
+    (modules : List AModule) (line : ℕ → ℕ) (p : Placing) → All IsObject modules → IsMap modules line → GoesBy modules line p → p.data_start % 4096 ≡ 0 →
+    IsPlacing modules p
