@@ -1,0 +1,9 @@
+// What holds of scheduled lines, as contracts of functions that do nothing.
+ghost use Rattle.p9_reach.specs.Laws.{ScheduleWithin};
+
+/// The scheduled lines of a program take no more words than its instructions, entries and start weigh.
+#[tactic(auto, using(crate::proofs::Sizes::schedule_within))]
+pub fn size_laws()
+    ensures { ScheduleWithin }
+{}
+
