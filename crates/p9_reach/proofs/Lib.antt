@@ -1,2 +1,4 @@
 pub mod Spacing
 pub mod Sizes
+pub mod Small
+pub mod Forms
