@@ -2,3 +2,5 @@ pub mod Spacing
 pub mod Sizes
 pub mod Small
 pub mod Forms
+pub mod Added
+pub mod Fitting
