@@ -7,7 +7,6 @@ use Rattle.std.proofs.lemmas.Bool.Decides.{nat_tests}
 use Rattle.p9_r3k.specs.declared.lines.Line.{Line}
 use Rattle.p9_r3k.specs.Delayed.{noop, enter}
 use Rattle.p9_slot.specs.Schedule.{retargeted, EachOnce, AddsOnlyNoops, IsAdded}
-use Rattle.p9_refine.proofs.Numbers.{all-at}
 
 found-or-added : (moved : List ℕ) (q : ℕ) → ((i : ℕ) × (slice_get moved i ≡ Some q)) ⊎ IsAdded moved q
 found-or-added [] q = inr (λ i e. none-some q e)

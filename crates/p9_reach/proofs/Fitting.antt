@@ -1,5 +1,5 @@
 -- The fields of a program's scheduled lines fit their bits.
-use Rattle.std.proofs.Common.{ℕ, zero, suc, ◌+◌, ◌≡◌, ◌≤◌, ◌<◌, ◌⊎◌, inl, inr, ◌||◌, Bool, true, false, Option, Some, None, List, [], ◌∷◌, ◌++◌, length, get_or, map, refl, sym, ap, subst, All, arith, if◌then◌else◌}
+use Rattle.std.proofs.Common.{ℕ, zero, suc, ◌+◌, ◌≡◌, ◌≤◌, ◌⊎◌, inl, inr, ◌||◌, Bool, true, false, Option, Some, None, List, [], ◌∷◌, ◌++◌, length, get_or, map, refl, sym, subst, All, arith, if◌then◌else◌}
 use Rattle.std.specs.Prelude.{slice_get}
 use Rattle.std.proofs.lemmas.Option.{slice_get-get_or}
 use Rattle.p9_base.specs.Words.{IsWord}
@@ -13,19 +13,17 @@ use Rattle.p9_object.specs.Laws.{IsObject}
 use Rattle.p9_r3k.specs.declared.lines.Line.{Line}
 use Rattle.p9_r3k.specs.Table.{Fits}
 use Rattle.p9_r3k.specs.Delayed.{noop}
-use Rattle.p9_slot.specs.Schedule.{EachOnce, AddsOnlyNoops}
 use Rattle.p9_slot.specs.Blocks.{is_named}
 use Rattle.p9_text.specs.Places.{places_of}
 use Rattle.p9_lines.specs.FormLines.{entry_lines, start_lines}
 use Rattle.p9_pieces.specs.Callees.{callee_in}
-use Rattle.p9_pieces.specs.Ways.{Scope, setting_of, scope_of, way_of}
+use Rattle.p9_pieces.specs.Ways.{Scope, scope_of, way_of}
 use Rattle.p9_pieces.specs.Pieces.{form_lines, code_pieces, function_pieces, pieces_from, joined}
 use Rattle.p9_pieces.proofs.Stepping.{joined-append}
 use Rattle.p9_forms.specs.Laws.{IsFine}
 use Rattle.p9_expand.specs.Base.{argument_list, base_offset}
 use Rattle.p9_expand.specs.Program.{aimed, is_first, marked, starts_of, program_lines}
 use Rattle.p9_expand.proofs.Valid.{IsSound, all_sound}
-use Rattle.p9_image.specs.Text.{LinesFit}
 use Rattle.p9_refine.proofs.Numbers.{all-at}
 use Rattle.p9_refine.proofs.Fine.{all-valid, all-fine}
 use Rattle.p9_reach.specs.Laws.{ScheduleFits}

@@ -1,5 +1,5 @@
 -- The fields of the lines of each form fit their bits.
-use Rattle.std.proofs.Common.{ℕ, ◌+◌, ◌-◌, ◌/◌, ◌%◌, ◌^◌, ◌==◌, ◌≡◌, ◌<◌, nat_lt, Bool, true, false, Option, Some, None, List, [], ◌∷◌, ◌++◌, refl, All, if◌then◌else◌, arith}
+use Rattle.std.proofs.Common.{ℕ, ◌+◌, ◌-◌, ◌%◌, ◌^◌, ◌==◌, ◌≡◌, ◌<◌, nat_lt, Bool, true, false, Option, Some, None, List, [], ◌∷◌, ◌++◌, refl, All, if◌then◌else◌, arith}
 use Rattle.std.proofs.lemmas.List.Elements.{All-nil, All-cons}
 use Rattle.std.proofs.lemmas.Bool.Decides.{nat_tests}
 use Rattle.p9_base.specs.Words.{IsWord}
@@ -28,7 +28,7 @@ use Rattle.p9_lines.specs.declared.parts.Access.TheVariants.{Load, Store, Addres
 use Rattle.p9_lines.specs.declared.parts.Setting.{Setting}
 use Rattle.p9_lines.specs.declared.parts.Way.{Way}
 use Rattle.p9_lines.specs.Insts.{access_inst, get_special, set_special, calculation, product, pair_branch, sign_branch, other_pair, other_sign}
-use Rattle.p9_lines.specs.FormLines.{plain, going_to, stop, is_near, high_of, upper_of, low_of, wide_lines, constant_lines, near_lines, symbol_lines, static_lines, access_lines, move_lines, shift_lines, jump_lines, branch_lines, raise_lines, lower_lines, entry_lines, return_lines, lines_of, start_lines}
+use Rattle.p9_lines.specs.FormLines.{plain, going_to, stop, is_near, high_of, upper_of, low_of, constant_lines, near_lines, symbol_lines, static_lines, access_lines, move_lines, shift_lines, jump_lines, raise_lines, lower_lines, entry_lines, lines_of, start_lines}
 use Rattle.p9_forms.specs.Laws.{IsFine}
 use Rattle.p9_reach.proofs.Small.{IsRegister, IsSmallLocation, IsSmall}
 

@@ -4,3 +4,7 @@ pub mod Small
 pub mod Forms
 pub mod Added
 pub mod Fitting
+pub mod Pieces
+pub mod Branching
+pub mod Close
+pub mod Reaching

@@ -1,7 +1,5 @@
 -- The scheduled lines are within the weights.
-use Rattle.std.proofs.Common.{ℕ, ◌≤◌, List, length, refl, arith}
-use Rattle.p9_abs.specs.declared.modules.AModule.{AModule}
-use Rattle.p9_r3k.specs.declared.lines.Line.{Line}
+use Rattle.std.proofs.Common.{refl, arith}
 use Rattle.p9_expand.specs.Program.{program_lines}
 use Rattle.p9_expand.proofs.Answering.{words_within}
 use Rattle.p9_reach.specs.Laws.{ScheduleWithin}

@@ -1,16 +1,14 @@
 -- The registers of a program's instructions are below 32, and their constants are words.
-use Rattle.std.proofs.Common.{ℕ, zero, suc, ◌==◌, ◌≡◌, ◌<◌, nat_lt, Bool, true, false, Option, Some, None, List, [], ◌∷◌, ◌++◌, length, map, refl, subst, All, flat_map, if◌then◌else◌, arith}
+use Rattle.std.proofs.Common.{ℕ, ◌≡◌, ◌<◌, nat_lt, Bool, true, false, Option, Some, None, List, [], ◌∷◌, length, map, refl, subst, All, if◌then◌else◌, arith}
 use Rattle.std.specs.Prelude.{slice_get}
 use Rattle.std.proofs.lemmas.List.Elements.{All-head, All-tail}
 use Rattle.std.proofs.lemmas.Bool.Decides.{nat_tests}
-use Rattle.p9_base.specs.Words.{IsWord}
 use Rattle.p9_abs.specs.declared.instructions.Op.{Op}
 use Rattle.p9_abs.specs.declared.instructions.Op.TheVariants as ops
 use Rattle.p9_abs.specs.declared.instructions.Operand.{Operand}
 use Rattle.p9_abs.specs.declared.instructions.Operand.TheVariants.{Reg, Const, AddrSB, AddrFP, AddrSP, MemSB, MemFP, MemSP, MemReg, Label, Func, Hi, Lo, Auto, AutoAddr}
 use Rattle.p9_abs.specs.declared.instructions.Abs.{Abs}
 use Rattle.p9_abs.specs.declared.modules.AModule.{AModule}
-use Rattle.p9_abs.specs.declared.modules.Symbol.{Symbol}
 use Rattle.p9_abs.specs.declared.forms.OperandKind.{OperandKind}
 use Rattle.p9_abs.specs.declared.forms.OperandKind.TheVariants.{Register, Constant, Address, Memory, HiLo, Target, Function}
 use Rattle.p9_abs.specs.declared.forms.Location.{Location}
@@ -28,16 +26,13 @@ use Rattle.p9_abs.specs.declared.forms.SignTest.TheVariants as sign
 use Rattle.p9_abs.specs.declared.forms.Form.{Form}
 use Rattle.p9_abs.specs.declared.forms.Form.TheVariants as forms
 use Rattle.p9_abs.specs.Forms.{operand_kind, word_move, signed_move, unsigned_move, arithmetic, shift, multiply, pair_branch, sign_branch, jump, call, bare, kinds_form, decoded}
-use Rattle.p9_abs.specs.Modules.{operands_of}
-use Rattle.p9_abs.specs.BuiltIn.{linked}
 use Rattle.p9_abs.specs.Runs.{Routine}
 use Rattle.p9_abs.specs.Programs.{routines_of}
-use Rattle.p9_abs.specs.Validity.{IsInRange, IsInstruction, IsValid}
-use Rattle.p9_object.specs.Laws.{OperandFits, IsObject}
-use Rattle.p9_forms.specs.Laws.{IsFine}
+use Rattle.p9_abs.specs.Validity.{IsInRange, IsInstruction}
+use Rattle.p9_object.specs.Laws.{IsObject}
 use Rattle.p9_expand.proofs.Valid.{IsSound, all_sound}
 use Rattle.p9_refine.proofs.Numbers.{all-at}
-use Rattle.p9_refine.proofs.Fine.{all-valid, all-fine}
+use Rattle.p9_refine.proofs.Fine.{all-valid}
 
 abbrev pub IsRegister : ℕ → Type 0
 IsRegister r = r < 32

@@ -1,11 +1,11 @@
 -- How far apart the entries of lines lie, by the words of the lines between them.
-use Rattle.std.proofs.Common.{ℕ, zero, suc, ◌+◌, ◌-◌, ◌≡◌, ◌≤◌, ◌<◌, Bool, true, false, List, [], ◌∷◌, length, take, drop, refl, sym, ap, ◌∙◌, subst, arith, if◌then◌else◌}
+use Rattle.std.proofs.Common.{ℕ, zero, suc, ◌+◌, ◌-◌, ◌≡◌, ◌≤◌, ◌<◌, List, [], ◌∷◌, length, take, drop, refl, sym, ap, ◌∙◌, subst, arith, if◌then◌else◌}
 use Rattle.std.proofs.lemmas.List.Sums.{sum_by-cons}
 use Rattle.p9_r3k.specs.declared.lines.Line.{Line}
 use Rattle.p9_r3k.specs.Effects.{writes_pair}
 use Rattle.p9_r3k.specs.Uses.{delays}
 use Rattle.p9_r3k.specs.Delayed.{least, enter}
-use Rattle.p9_slot.specs.Schedule.{is_at, most_between, EachOnce, IsSpaced}
+use Rattle.p9_slot.specs.Schedule.{is_at, EachOnce, IsSpaced}
 use Rattle.p9_lines.specs.Weights.{inst_words, words_needed}
 
 -- the words of the lines before line i

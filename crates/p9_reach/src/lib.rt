@@ -3,4 +3,4 @@
 
 mod laws;
 
-pub use laws::{fit_laws, size_laws};
+pub use laws::{fit_laws, reach_laws, size_laws};
