@@ -6,7 +6,7 @@ ghost use Rattle.p9_abs.specs.Regions.{AreRegions, AreHomes};
 ghost use Rattle.p9_abs.specs.Framed.{Framed};
 ghost use Rattle.p9_homes.specs.Tables.{AreWithin};
 ghost use Rattle.p9_frame.specs.Sizes.{end_from, stated_sum};
-ghost use Rattle.p9_frame.specs.Plans.{IsPlain};
+ghost use Rattle.p9_homed.specs.Plain.{IsPlain};
 ghost use Rattle.p9_frame.specs.Making.{first_of, IsMade};
 
 use crate::code::code_of;
