@@ -31,7 +31,7 @@ use Rattle.p9_forms.specs.Standing.{Stand}
 use Rattle.p9_refine.proofs.Numbers.{all-at, lines-rise, has-first}
 use Rattle.p9_refine.specs.Maps.{IsMap, function_line}
 use Rattle.p9_load_laws.specs.Showing.{entry_address, data_start_of}
-use Rattle.p9_load_laws.specs.Mapping.{ScheduleMaps}
+use Rattle.p9_load_laws.specs.Mapping.{ScheduleMaps, ScheduleLeavesRoom}
 
 -- Lists
 
@@ -66,26 +66,24 @@ least_at end [] i h = absurd (omega (arith, h))
 least_at end (n ∷ ns) zero h = omega arith
 least_at end (n ∷ ns) (suc i) h = least_at end ns i (omega (arith, h))
 
+-- a line is entered no later than where it stands, which is among the new lines
+entered_at : (modules : List AModule) (moved : List ℕ) (new : List Line) → EachOnce (program_lines modules) new moved → (i : ℕ) → i < length (program_lines modules) →
+    (enter moved (length new) i ≤ slice_index moved i) × (slice_index moved i < length new)
+entered_at modules moved new once i h =
+    let count = once.count in
+    let line = there (program_lines modules) i h in (
+      least_at (length new) moved i (omega (arith, h, count)),
+      within new (slice_index moved i) _ (once.kept i line.0 line.1),
+    )
+
 module _ (modules : List AModule) (moved : List ℕ) (new : List Line) (valid : All IsValid modules) (marks : IsMarked modules (program_lines modules))
     (once : EachOnce (program_lines modules) new moved) (calls : CallsReturn (program_lines modules) new moved) (divided : TargetsDivide (program_lines modules) new moved)
-    (small : line_address (length new) < 2 ^ 28) (few : init_size (linked modules) + bss_size (linked modules) ≤ 2 ^ 24) where
+    (small : line_address (length new) < 2 ^ 28) where
   abbrev lines : List Line
   lines = program_lines modules
 
   abbrev entered : ℕ → ℕ
   entered i = enter moved (length new) i
-
-  -- a line is entered no later than where it stands, which is among the new lines
-  entered_at : (i : ℕ) → i < length lines → (entered i ≤ slice_index moved i) × (slice_index moved i < length new)
-  entered_at i h =
-      let count = once.count in
-      let line = there lines i h in (
-        least_at (length new) moved i (omega (arith, h, count)),
-        within new (slice_index moved i) _ (once.kept i line.0 line.1),
-      )
-
-  entered_within : (i : ℕ) → i < length lines → entered i < length new
-  entered_within i h = (let e = entered_at i h in let a = e.0 in let b = e.1 in omega (arith, a, b))
 
   linked_within : (i : ℕ) (o : Option Line) → slice_get lines i ≡ o → is_at links lines i ≡ true → i < length lines
   linked_within i None e h = absurd (no_line (ap (Rattle.p9_slot.specs.Schedule.line_is links) (sym e) ∙ h))
@@ -133,7 +131,7 @@ module _ (modules : List AModule) (moved : List ℕ) (new : List Line) (valid : 
       let t : ℕ = function_line modules f in
       let line = there lines t inside in
       let apart = divided i t line.0 line.1 (first_is_target f r line.0 e line.1) h in
-      let at = (entered_at i (omega (arith, h, inside))).0 in
+      let at = (entered_at modules moved new once i (omega (arith, h, inside))).0 in
       omega (arith, apart, at)
 
   -- each function has a line
@@ -150,19 +148,28 @@ module _ (modules : List AModule) (moved : List ℕ) (new : List Line) (valid : 
       let before = lines-rise modules (entry_of modules f) (s.first + 0) (omega arith) in
       omega (arith, inside, before)
 
-  pub maps : IsMap modules (entry_address moved new) (data_start_of new)
+  pub maps : IsMap modules (entry_address moved new)
   maps = record {
-    code = λ i h. (let w = entered_within i h in (omega arith, omega arith, omega (arith, w, small)));
+    code = λ i h. (let w = (entered_at modules moved new once i h).0 in let b = (entered_at modules moved new once i h).1 in (omega arith, omega arith, omega (arith, w, b, small)));
     rising = λ i j h inside. (let r = least_rises (length new) moved i j h in omega (arith, r));
-    before_data = λ i h. (let w = entered_within i h in let above = page_from-above (line_address (length new)) in omega (arith, w, above));
     apart = λ f i r e h. (let b = before_function f i r e h (function_within f r e) in omega (arith, b));
     returns = λ i h. (
         let inside = linked_within i (slice_get lines i) refl h in
-        let at = (entered_at i inside).0 in
+        let at = (entered_at modules moved new once i inside).0 in
         let back = calls i h in
         omega (arith, at, back));
-    room = (let near = page_from-near (line_address (length new)) in omega (arith, near, small, few));
   }
 
 pub schedule_maps : ScheduleMaps
-schedule_maps modules moved new valid marks once calls divided small few = maps modules moved new valid marks once calls divided small few
+schedule_maps modules moved new valid marks once calls divided small = maps modules moved new valid marks once calls divided small
+
+pub schedule_leaves_room : ScheduleLeavesRoom
+schedule_leaves_room modules moved new once small few = record {
+  before_data = λ i h. (
+      let e = entered_at modules moved new once i h in
+      let low = e.0 in
+      let high = e.1 in
+      let above = page_from-above (line_address (length new)) in
+      omega (arith, low, high, above));
+  room = (let near = page_from-near (line_address (length new)) in omega (arith, near, small, few));
+}

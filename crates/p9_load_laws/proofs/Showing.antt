@@ -7,7 +7,7 @@ use Rattle.p9_base.specs.SystemCalls.{State, exit_text}
 use Rattle.p9_abs.specs.declared.modules.AModule.{AModule}
 use Rattle.p9_abs.specs.BuiltIn.{linked}
 use Rattle.p9_abs.specs.Runs.{Status, Going, Gone, Broken}
-use Rattle.p9_abs.specs.Programs.{Placing, init_bytes, bss_size, arun}
+use Rattle.p9_abs.specs.Programs.{Placing, addresses_of, init_bytes, bss_size, arun}
 use Rattle.p9_forms.specs.Standing.{Rest, stands}
 use Rattle.p9_object.specs.Laws.{IsObject}
 use Rattle.p9_names.specs.declared.rules.Rule.TheVariants.{Once}
@@ -29,7 +29,7 @@ use Rattle.p9_refine.specs.Maps.{addresses_by, instruction_line}
 use Rattle.p9_refine.specs.Refining.{Comes, HasExited, StandsAs, ProgramRefines, at_start}
 use Rattle.p9_load_laws.proofs.Quiet.{IsQuiet, straight_suc, quiet_step, ended_step}
 use Rattle.p9_load_laws.proofs.Starting.{starts_same, below_size}
-use Rattle.p9_load_laws.specs.Showing.{entry_address, data_start_of, placing_of, below_data, IsArranged, executable_start, ShowsAs, MachineShows}
+use Rattle.p9_load_laws.specs.Showing.{entry_address, data_start_of, below_data, IsArranged, executable_start, ShowsAs, MachineShows}
 
 -- The same output and input left, and where the first has exited the same exit
 pub record LooksAs (s t : State) : Type 0 where
@@ -124,13 +124,10 @@ not_halted_exited Running h = tt
 not_halted_exited (Exited at len) h = tt
 not_halted_exited (Halted cause pc) h = absurd h
 
-module _ (modules : List AModule) (moved : List ℕ) (new : List Line) (tables : List (List ℕ)) (input : List ℕ) (arranged : IsArranged modules moved new tables)
-    (fits : ImageFits (text_bytes tables new) (init_bytes modules (placing_of modules moved new)) (bss_size (linked modules))) where
-  abbrev pub p : Placing
-  p = placing_of modules moved new
-
+module _ (modules : List AModule) (p : Placing) (moved : List ℕ) (new : List Line) (tables : List (List ℕ)) (input : List ℕ) (arranged : IsArranged modules p moved new tables)
+    (fits : ImageFits (text_bytes tables new) (init_bytes modules p) (bss_size (linked modules))) where
   abbrev pub a : Addresses
-  a = addresses_by modules (entry_address moved new) (data_start_of new)
+  a = addresses_by modules (entry_address moved new) p
 
   abbrev pub lines : List Line
   lines = program_lines modules
@@ -145,7 +142,7 @@ module _ (modules : List AModule) (moved : List ℕ) (new : List Line) (tables :
   end = line_address (length new)
 
   abbrev pub s : State
-  s = executable_start modules moved new tables input
+  s = executable_start modules p new tables input
 
   same_symbols : address_at tables ≡ a.symbol
   same_symbols = λ i unit k. arranged.symbols unit k i
@@ -154,7 +151,10 @@ module _ (modules : List AModule) (moved : List ℕ) (new : List Line) (tables :
   same_run m =
       runs_its_lines tables new (init_bytes modules p) (bss_size (linked modules)) input (entry_address moved new) m arranged.fit arranged.reach arranged.small fits
       ∙ (ap (λ (f : ℕ → ℕ → ℕ). delayed_run (record { line = entry_address moved new; symbol = f }) new m s) same_symbols
-      ∙ ap (delayed_run a new m) (starts_same modules moved new tables input))
+      ∙ ap (delayed_run a new m) (starts_same modules p new tables input arranged.begin))
+
+  end_below : end ≤ x.state.core.data_start
+  end_below = subst (λ (d : ℕ). end ≤ d) (sym arranged.begin) (page_from-above end)
 
   -- the machine comes to look as the straight machine behind one line more
   pub record Reached (before : ℕ) : Type 0 where
@@ -166,7 +166,7 @@ module _ (modules : List AModule) (moved : List ℕ) (new : List Line) (tables :
   comes : (before : ℕ) → NotHalted (straight_run a lines (suc before) x).state.core.ending → Reached before
   comes before going =
       let f : Follows a lines new x (at_first_line end x.state) before =
-      arranged.runs a.symbol x.state end before (λ i h. (arranged.map.code i h).2) (page_from-above end) going in
+      arranged.runs a.symbol x.state end before (λ i h. (arranged.map.code i h).2) end_below going in
       record {
         count = f.instructions;
         many = f.at_least;
@@ -218,7 +218,8 @@ module _ (modules : List AModule) (moved : List ℕ) (new : List Line) (tables :
 
   pub shown : ProgramRefines → All IsObject modules → IsKept Once (linked modules) → (n : ℕ) → ShowsAs s n (arun modules p below input n)
   shown refines objects once n =
-      shows n (arun modules p below input n) (refines modules (entry_address moved new) (data_start_of new) below input n objects once arranged.map (below_size tables new))
+      shows n (arun modules p below input n)
+      (refines modules (entry_address moved new) p below input n objects once arranged.map arranged.goes (below_size tables new ∙ sym arranged.begin))
 
 pub machine_shows : MachineShows
-machine_shows modules moved new tables input n objects once arranged fits = shown modules moved new tables input arranged fits program_refines objects once n
+machine_shows modules p moved new tables input n objects once arranged fits = shown modules p moved new tables input arranged fits program_refines objects once n

@@ -15,7 +15,7 @@ use Rattle.p9_slot.specs.Runs.{at_first_line}
 use Rattle.p9_image.specs.Text.{text_bytes}
 use Rattle.p9_image_laws.proofs.Texts.{text_size}
 use Rattle.p9_refine.specs.Refining.{before_start}
-use Rattle.p9_load_laws.specs.Showing.{data_start_of, placing_of, below_data, executable_start}
+use Rattle.p9_load_laws.specs.Showing.{data_start_of, below_data, executable_start}
 
 zeros_same : (n : ℕ) → zeros n ≡ zero_bytes n
 unfolding zeros zero_bytes
@@ -57,11 +57,10 @@ from_modules modules p below input text_end = refl
 pub text_end_of : (tables : List (List ℕ)) (new : List Line) → text_start + length (text_bytes tables new) ≡ line_address (length new)
 text_end_of tables new = let s = text_size tables 0 new in omega (arith, s)
 
-pub starts_same : (modules : List AModule) (moved : List ℕ) (new : List Line) (tables : List (List ℕ)) (input : List ℕ) →
-    executable_start modules moved new tables input
-    ≡ at_first_line (line_address (length new)) (before_start modules (placing_of modules moved new) (below_data (text_bytes tables new) new) input)
-starts_same modules moved new tables input =
-    let p : Placing = placing_of modules moved new in
+pub starts_same : (modules : List AModule) (p : Placing) (new : List Line) (tables : List (List ℕ)) (input : List ℕ) → p.data_start ≡ data_start_of new →
+    executable_start modules p new tables input
+    ≡ at_first_line (line_address (length new)) (before_start modules p (below_data (text_bytes tables new) new) input)
+starts_same modules p new tables input begin =
     let text : List ℕ = text_bytes tables new in
     let init : List ℕ = init_bytes modules p in
     let bss : ℕ = bss_size (linked modules) in
@@ -71,7 +70,8 @@ starts_same modules moved new tables input =
     ∙ (ap (λ (e : ℕ). first_state (whole (zeros bss) e) (zeros (2 ^ 24)) e (page_from e) input) (text_end_of tables new)
     ∙ (ap (λ (z : List ℕ). first_state (whole z end) (zeros (2 ^ 24)) end (page_from end) input) (zeros_same bss)
     ∙ (ap (λ (z : List ℕ). first_state (whole (zero_bytes bss) end) z end (page_from end) input) (zeros_same (2 ^ 24))
-    ∙ sym (from_modules modules p (below_data text new) input end))))
+    ∙ (ap (λ (d : ℕ). first_state (whole (zero_bytes bss) end) (zero_bytes (2 ^ 24)) end d input) (sym begin)
+    ∙ sym (from_modules modules p (below_data text new) input end)))))
 
 pub below_size : (tables : List (List ℕ)) (new : List Line) → text_start + length (below_data (text_bytes tables new) new) ≡ data_start_of new
 below_size tables new =

@@ -6,7 +6,7 @@ use Rattle.p9_base.specs.SystemCalls.{State, exit_text}
 use Rattle.p9_abs.specs.declared.modules.AModule.{AModule}
 use Rattle.p9_abs.specs.BuiltIn.{linked}
 use Rattle.p9_abs.specs.Runs.{Status, Going, Gone, Broken}
-use Rattle.p9_abs.specs.Programs.{Placing, init_bytes, bss_size, arun}
+use Rattle.p9_abs.specs.Programs.{Placing, addresses_of, init_bytes, bss_size, arun}
 use Rattle.p9_object.specs.Laws.{IsObject}
 use Rattle.p9_names.specs.declared.rules.Rule.TheVariants.{Once}
 use Rattle.p9_names.specs.Linking.{IsKept}
@@ -19,7 +19,7 @@ use Rattle.p9_slot.specs.Runs.{RunsAsStraight}
 use Rattle.p9_expand.specs.Program.{program_lines}
 use Rattle.p9_image.specs.Text.{address_at, text_bytes, LinesFit}
 use Rattle.p9_image_laws.specs.Reaching.{LinesReach}
-use Rattle.p9_refine.specs.Maps.{IsMap, placing_by, addresses_by}
+use Rattle.p9_refine.specs.Maps.{IsMap, GoesBy}
 use Rattle.p9_refine.specs.Refining.{HasExited}
 
 -- The executable
@@ -32,27 +32,25 @@ entry_address moved new i = line_address (enter moved (length new) i)
 abbrev pub data_start_of : List Line → ℕ
 data_start_of new = page_from (line_address (length new))
 
-abbrev pub placing_of : List AModule → (moved : List ℕ) → (new : List Line) → Placing
-placing_of modules moved new = placing_by modules (entry_address moved new) (data_start_of new)
-
 -- the bytes from the text's start to the data
 abbrev pub below_data : (text : List ℕ) → (new : List Line) → List ℕ
 below_data text new = text ++ zeros (data_start_of new - line_address (length new))
 
--- the lines of modules are scheduled, fit their words, have addresses and reach their targets; and tables have the
--- addresses of the modules' symbols
-pub record IsArranged (modules : List AModule) (moved : List ℕ) (new : List Line) (tables : List (List ℕ)) : Type 0 where
+-- the lines of modules are scheduled, fit their words and reach their targets; a placing goes by the addresses at which
+-- they are entered; and tables have the addresses of the modules' symbols by it
+pub record IsArranged (modules : List AModule) (p : Placing) (moved : List ℕ) (new : List Line) (tables : List (List ℕ)) : Type 0 where
   pub runs : RunsAsStraight (program_lines modules) new moved
   pub fit : LinesFit new
   pub reach : LinesReach new
   pub small : line_address (length new) < 2 ^ 28
-  pub map : IsMap modules (entry_address moved new) (data_start_of new)
-  pub symbols : (unit k : ℕ) → address_at tables unit k ≡ (addresses_by modules (entry_address moved new) (data_start_of new)).symbol unit k
+  pub map : IsMap modules (entry_address moved new)
+  pub goes : GoesBy modules (entry_address moved new) p
+  pub begin : p.data_start ≡ data_start_of new
+  pub symbols : (unit k : ℕ) → address_at tables unit k ≡ (addresses_of modules p).symbol unit k
 
 -- before the first instruction of the executable with these parts
-abbrev pub executable_start : List AModule → (moved : List ℕ) → (new : List Line) → (tables : List (List ℕ)) → (input : List ℕ) → State
-executable_start modules moved new tables input =
-    start (text_bytes tables new) (init_bytes modules (placing_of modules moved new)) (bss_size (linked modules)) text_start input
+abbrev pub executable_start : List AModule → Placing → (new : List Line) → (tables : List (List ℕ)) → (input : List ℕ) → State
+executable_start modules p new tables input = start (text_bytes tables new) (init_bytes modules p) (bss_size (linked modules)) text_start input
 
 -- What is shown
 
@@ -67,12 +65,11 @@ ShowsAs s n (Gone t) =
     × ((run m s).out ≡ t.out) × ((run m s).left ≡ t.left)
 ShowsAs s n Broken = Unit {0}
 
--- for objects that define no name twice, and each input: after each number of steps
+-- for objects that define no name twice, each placing, and each input: after each number of steps
 abbrev pub MachineShows : Type 0
 MachineShows =
-    (modules : List AModule) (moved : List ℕ) (new : List Line) (tables : List (List ℕ)) (input : List ℕ) (n : ℕ) →
-    All IsObject modules → IsKept Once (linked modules) → IsArranged modules moved new tables →
-    (let p : Placing = placing_of modules moved new in
-    let text : List ℕ = text_bytes tables new in
+    (modules : List AModule) (p : Placing) (moved : List ℕ) (new : List Line) (tables : List (List ℕ)) (input : List ℕ) (n : ℕ) →
+    All IsObject modules → IsKept Once (linked modules) → IsArranged modules p moved new tables →
+    (let text : List ℕ = text_bytes tables new in
     ImageFits text (init_bytes modules p) (bss_size (linked modules)) →
-    ShowsAs (executable_start modules moved new tables input) n (arun modules p (below_data text new) input n))
+    ShowsAs (executable_start modules p new tables input) n (arun modules p (below_data text new) input n))

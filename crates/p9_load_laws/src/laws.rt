@@ -1,5 +1,5 @@
 // What holds of executables, as a contract of a function that does nothing.
-ghost use Rattle.p9_load_laws.specs.Mapping.{ScheduleMaps};
+ghost use Rattle.p9_load_laws.specs.Mapping.{ScheduleMaps, ScheduleLeavesRoom};
 ghost use Rattle.p9_load_laws.specs.Showing.{MachineShows};
 
 /// From the start of an executable whose text has the scheduled lines of modules and whose data are
@@ -11,8 +11,8 @@ pub fn executable_laws()
 {}
 
 /// The addresses at which a schedule's lines are entered meet what the run of modules asks of a map of
-/// addresses.
-#[tactic(auto, using(crate::proofs::Mapping::schedule_maps))]
+/// addresses, and the data behind them find room.
 pub fn map_laws()
-    ensures { ScheduleMaps }
+    ensures maps { ScheduleMaps }
+    ensures room { ScheduleLeavesRoom }
 {}
