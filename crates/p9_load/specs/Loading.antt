@@ -1,22 +1,25 @@
 -- The executable of modules: its text, from the schedule of their lines, its data, and its symbols.
-use Rattle.std.specs.Prelude.{ℕ, ◌*◌, ◌≡◌, List, length}
+use Rattle.std.specs.Prelude.{ℕ, ◌+◌, ◌-◌, ◌*◌, ◌≡◌, List, ◌++◌, length, Ok}
 use Rattle.p9_base.specs.Core.{text_start}
 use Rattle.p9_abs.specs.declared.modules.AModule.{AModule}
 use Rattle.p9_abs.specs.BuiltIn.{linked}
-use Rattle.p9_abs.specs.Programs.{Placing, routines_of, init_bytes, bss_size}
+use Rattle.p9_abs.specs.Programs.{Placing, routines_of, init_bytes, bss_size, arun}
 use Rattle.p9_r3k.specs.declared.lines.Line.{Line}
+use Rattle.p9_r3k.specs.Start.{start, zeros}
 use Rattle.p9_slot.specs.Schedule.{EachOnce, AddsOnlyNoops, CallsReturn, TargetsDivide, IsSpaced}
 use Rattle.p9_slot.specs.Justified.{NoopsJustified}
 use Rattle.p9_slot.specs.Runs.{RunsAsStraight}
 use Rattle.p9_pieces.specs.Callees.{callee_in}
 use Rattle.p9_expand.specs.Program.{starts_of, program_lines}
 use Rattle.p9_image.specs.Text.{LinesFit, text_bytes}
+use Rattle.p9_image_laws.specs.Reaching.{LinesReach}
 use Rattle.p9_aout.specs.declared.format.Image.{Image}
+use Rattle.p9_aout.specs.Image.{ImageParts, image_of, parts_of}
 use Rattle.p9_aout.specs.Spelled.{spelled}
+use Rattle.p9_load_laws.specs.Showing.{ShowsAs}
 use Rattle.p9_symbols.specs.Placing.{placing_of}
 use Rattle.p9_symbols.specs.Tables.{symbol_tables}
 use Rattle.p9_symbols.specs.Entries.{symbol_entries}
-use Rattle.p9_reach.specs.Reach.{BranchesReach}
 use Rattle.p9_load.specs.declared.loaded.Loaded.{Loaded}
 use Rattle.p9_load.specs.Addresses.{entered_addresses}
 
@@ -47,7 +50,7 @@ pub record IsText (modules : List AModule) (loaded : Loaded) (text : List ℕ) :
   pub moved : List ℕ
   pub scheduled : IsSchedule (program_lines modules) lines moved
   pub fit : LinesFit lines
-  pub reach : BranchesReach lines
+  pub reach : LinesReach lines
   pub size : loaded.text_size ≡ 4 * length lines
   pub places : loaded.places.items ≡ places_in modules lines moved
   pub words : text ≡ text_bytes (symbol_tables modules (placing modules loaded)) lines
@@ -59,9 +62,24 @@ pub record IsText (modules : List AModule) (loaded : Loaded) (text : List ℕ) :
 pub record Loads (modules : List AModule) (loaded : Loaded) : Type 0 where
   pub image : Image
   pub bytes : loaded.bytes ≡ spelled image
+  pub read : image_of loaded.bytes ≡ Ok (parts_of image)
   pub entry : loaded.entry ≡ text_start
   pub starts : image.entry ≡ text_start
   pub text : IsText modules loaded image.text
   pub init : image.init ≡ init_bytes modules (placing modules loaded)
   pub bss : image.bss ≡ bss_size (linked modules)
   pub symbols : image.syms.items ≡ symbol_entries modules (placing modules loaded)
+
+-- What the machine does
+
+-- the bytes from the text's start to the data
+abbrev pub below_data : (text : List ℕ) → (data_start : ℕ) → List ℕ
+below_data text data_start = text ++ zeros (data_start - (text_start + length text))
+
+-- for each input: from the start of the executable the machine shows what the modules' run shows after each number of
+-- steps
+abbrev pub RunsAsModules : List AModule → Loaded → Type 0
+RunsAsModules modules loaded =
+    (parts : ImageParts) (input : List ℕ) (n : ℕ) → image_of loaded.bytes ≡ Ok parts →
+    (let p : Placing = placing modules loaded in
+    ShowsAs (start parts.text parts.init parts.bss parts.entry input) n (arun modules p (below_data parts.text p.data_start) input n))

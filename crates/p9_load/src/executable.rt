@@ -1,28 +1,22 @@
 // Expanded modules as an executable.
-ghost use Rattle.std.specs.Prelude.{◌≡◌, ◌<◌, ◌≤◌, ◌+◌, ◌^◌, ◌*◌, ◌++◌, All, length, map, IfOk};
-ghost use Rattle.p9_abs.specs.Validity.{IsValid};
-ghost use Rattle.p9_abs.specs.BuiltIn.{linked, builtin_module};
-ghost use Rattle.p9_abs.specs.Programs.{IsPlacing, routines_of, inits_of, bss_of, init_size, bss_size, init_bytes};
-ghost use Rattle.p9_names.specs.Linking.{IsTable, ChoosesAll};
-ghost use Rattle.p9_place.specs.Places.{spots};
-ghost use Rattle.p9_r3k.specs.Delayed.{line_address, enter};
-ghost use Rattle.p9_slot.specs.Schedule.{HaveTargets, TargetsAreLines};
-ghost use Rattle.p9_pieces.specs.Callees.{callee_in};
-ghost use Rattle.p9_expand.specs.Program.{starts_of, program_lines};
+ghost use Rattle.std.specs.Prelude.{◌≡◌, ◌<◌, ◌^◌, ◌*◌, All, length, IfOk, OnOk};
+ghost use Rattle.p9_abs.specs.BuiltIn.{linked};
+ghost use Rattle.p9_abs.specs.Programs.{IsPlacing, bss_size, init_bytes};
+ghost use Rattle.p9_object.specs.Laws.{IsObject};
 ghost use Rattle.p9_image.specs.Text.{LinesFit, text_bytes};
+ghost use Rattle.p9_aout.specs.Symbols.{symbol_bytes};
 ghost use Rattle.p9_symbols.specs.Placing.{placing_of};
 ghost use Rattle.p9_symbols.specs.Tables.{symbol_tables};
 ghost use Rattle.p9_symbols.specs.Entries.{symbol_entries};
-ghost use Rattle.p9_load.specs.Loading.{Loads, placing};
+ghost use Rattle.p9_load.specs.Loading.{Loads, placing, RunsAsModules};
 ghost use Rattle.p9_load.specs.Expansions.{IsExpansion};
 ghost use Rattle.p9_load.specs.Refusals.{AreLoadable};
-ghost use Rattle.p9_load.specs.Addresses.{entered_addresses};
 
 use crate::addresses::entered_addresses;
 use crate::expansion::Expansion;
 use crate::loaded::Loaded;
 use p9_abs::AModule;
-use p9_aout::{Image, write_aout};
+use p9_aout::{AoutSym, Image, write_aout};
 use p9_base::{Bytes, NoMemory};
 use p9_data::data_bytes;
 use p9_image::text_bytes;
@@ -44,6 +38,21 @@ fn text_size(lines: &[Line]) -> Result<u32, NoMemory>
     words.checked_mul(4).ok_or(NoMemory)
 }
 
+// The bytes of symbol entries. 2^32 and more are want of memory.
+fn entries_size(entries: &[AoutSym]) -> Result<u32, NoMemory>
+    ensures size { IfOk result (λ n. n ≡ length (symbol_bytes entries.now)) }
+{
+    let mut size: u32 = 0;
+    let mut rest = entries;
+    while let [entry, after @ ..] = rest {
+        let name = u32::try_from(entry.name.list.len()).map_err(|_| NoMemory)?;
+        size = size.checked_add(6).ok_or(NoMemory)?;
+        size = size.checked_add(name).ok_or(NoMemory)?;
+        rest = after;
+    }
+    Ok(size)
+}
+
 // The parts of the executable of expanded modules, from their scheduled lines and the addresses of
 // functions and instructions.
 fn image(
@@ -54,7 +63,6 @@ fn image(
     places: &[u32],
     text_size: u32,
 ) -> Result<Image, NoMemory>
-    requires valid { All IsValid modules.now.items }
     requires count { length modules.now.items < 2 ^ 32 }
     requires small { All (λ m. length m.symbols < 2 ^ 32) modules.now.items }
     requires expansion { IsExpansion modules.now.items expansion.now }
@@ -97,19 +105,20 @@ pub(crate) fn written(
     modules: &Vec<AModule>,
     expansion: &Expansion,
 ) -> Result<Loaded, NoMemory>
-    requires valid { All IsValid modules.now.items }
+    requires objects { All IsObject modules.now.items }
     requires count { length modules.now.items < 2 ^ 32 }
-    requires small { All (λ m. length m.symbols < 2 ^ 32) modules.now.items }
     requires expansion { IsExpansion modules.now.items expansion.now }
     requires loadable { AreLoadable modules.now.items }
     ensures loads { IfOk result (Loads modules.now.items) }
     ensures placed { IfOk result (λ loaded. IsPlacing modules.now.items (placing modules.now.items loaded)) }
+    ensures runs { IfOk result (RunsAsModules modules.now.items) }
 {
     let scheduled = schedule(alloc, &expansion.lines)?;
     let lines = scheduled.lines.list.as_slice();
     let places = entered_addresses(alloc, &expansion.starts, &scheduled.moved, lines)?;
     let text_size = text_size(lines)?;
     let image = image(alloc, modules, expansion, lines, &places, text_size)?;
+    entries_size(&image.syms)?;
     let bytes = write_aout(alloc, &image)?;
     Ok(Loaded {
         bytes,

@@ -1,11 +1,11 @@
 // Modules as an executable.
 ghost use Rattle.std.specs.Prelude.{◌≡◌, ◌≢◌, ◌⊎◌, ◌<◌, ◌^◌, All, length, Err, IsOk, IfOk, IfErr};
-ghost use Rattle.p9_abs.specs.Validity.{IsValid};
+ghost use Rattle.p9_object.specs.Laws.{IsObject};
 ghost use Rattle.p9_abs.specs.Programs.{IsPlacing};
 ghost use Rattle.p9_load.specs.declared.fault.LoadFault.{LoadFault};
 ghost use Rattle.p9_load.specs.declared.fault.LoadFault.TheVariants.{Memory};
 ghost use Rattle.p9_load.specs.Refusals.{AreLoadable, IsLoadRefusal};
-ghost use Rattle.p9_load.specs.Loading.{Loads, placing};
+ghost use Rattle.p9_load.specs.Loading.{Loads, placing, RunsAsModules};
 
 use crate::executable::written;
 use crate::expansion::expand_modules;
@@ -18,11 +18,11 @@ use std::alloc::Global;
 /// and writes the executable, without a table for debuggers. Want of memory may come at any place. The
 /// work is linear in the instructions, symbols and bytes.
 pub fn load(alloc: Global, modules: &Vec<AModule>) -> Result<Loaded, LoadFault>
-    requires valid { All IsValid modules.now.items }
+    requires objects { All IsObject modules.now.items }
     requires count { length modules.now.items < 2 ^ 32 }
-    requires small { All (λ m. length m.symbols < 2 ^ 32) modules.now.items }
     ensures loads { IfOk result (Loads modules.now.items) }
     ensures placed { IfOk result (λ loaded. IsPlacing modules.now.items (placing modules.now.items loaded)) }
+    ensures runs { IfOk result (RunsAsModules modules.now.items) }
     ensures loadable { IfOk result (λ _. AreLoadable modules.now.items) }
     ensures refused { IfErr result (IsLoadRefusal modules.now.items) }
 
