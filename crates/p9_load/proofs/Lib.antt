@@ -4,4 +4,4 @@ pub mod Parts
 pub mod Sizes
 pub mod Naming
 pub mod Going
-
+pub mod Finishing
