@@ -45,7 +45,7 @@ fn expanded(rt: &impl Abort, alloc: Global, modules: &Vec<AModule>) -> Result<Li
     assert!(rt; few);
     let table = resolve(alloc, modules)?;
     let places = place(alloc, modules, &table)?;
-    Ok(expand(alloc, modules, &table, &places)?)
+    Ok(expand(alloc, modules, &table, &places)?.lines)
 }
 
 fn line(lines: &Lines, number: usize) -> Result<(Inst, Option<u32>), Fail> {
