@@ -1,0 +1,6 @@
+//! First contents: the bytes and addresses that an initialiser leaves in its object.
+#![tactic(auto)]
+
+mod cell;
+mod parting;
+mod writing;
