@@ -192,13 +192,14 @@ address_at cells at part symbol offset placed e =
     let size : length (drop at cells) ≡ 4 + length a.rest = ap length whole ∙ omega arith in
     record {
       whole = whole ∙ ap (λ l. Part 0 symbol offset ∷ Part 1 symbol offset ∷ Part 2 symbol offset ∷ Part 3 symbol offset ∷ l) rest;
-      within = (let all = dropped cells at in let inside = slice_get_within cells at (Part part symbol offset) e in omega (arith, size, all, inside));
+      within = (let inside = slice_get_within cells at (Part part symbol offset) e in let all = dropped cells at (omega (arith, inside)) in omega (arith, size, all, inside));
     }
   where
-    dropped : {X : Type 0} (xs : List X) (k : ℕ) → length xs ≤ length (drop k xs) + k
-    dropped [] k = omega arith
-    dropped (x ∷ xs) zero = omega arith
-    dropped (x ∷ xs) (suc k) = (let r = dropped xs k in omega (arith, r))
+    dropped : {X : Type 0} (xs : List X) (k : ℕ) → k ≤ length xs → length xs ≡ length (drop k xs) + k
+    dropped [] zero h = refl
+    dropped [] (suc k) h = absurd (omega (arith, h))
+    dropped (x ∷ xs) zero h = omega arith
+    dropped (x ∷ xs) (suc k) h = (let r = dropped xs k (omega (arith, h)) in omega (arith, r))
 
 pub address_within : (cells : List InitCell) (pieces : List DataPiece) (raw : List ℕ) (at part symbol offset : ℕ) → StandsAt cells pieces raw at → slice_get cells at ≡ Some (Part part symbol offset) → at + 4 ≤ length cells
 address_within cells pieces raw at part symbol offset s e = (address_at cells at part symbol offset s.placed e).within
