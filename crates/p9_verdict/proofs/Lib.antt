@@ -1,0 +1,4 @@
+mod Operands
+mod Bodies
+pub mod Leasts
+mod Arguments
