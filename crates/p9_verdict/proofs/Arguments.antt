@@ -30,7 +30,7 @@ arguments_next tags so_far rule later whole ps ps' os os' p o e f g h c = record
       (ap (λ r. least_of_both r (told_of tags ps' os')) g
       ∙ sym (least_append (conversion_rules tags (value_type (told_operand o)) (type_of p) (is_null (told_operand o))) (argument_rules tags (type_row (types_of ps')) (told_operands os')))
       ∙ sym (ap (λ x. told_of tags x os) e ∙ ap (told_of tags (p ∷ ps')) f))
-      ∙ c.same
+      ∙ c.same;
 }
 
 -- an argument is lacking

@@ -65,12 +65,7 @@ pub(crate) fn target_type(alloc: Global, ty: &CType, tags: &Tags) -> Result<CTyp
 }
 
 // What an array and an index together point to.
-fn element_type(
-    alloc: Global,
-    a: &Operand,
-    i: &Operand,
-    tags: &Tags,
-) -> Result<CType, RuleFault>
+fn element_type(alloc: Global, a: &Operand, i: &Operand, tags: &Tags) -> Result<CType, RuleFault>
     requires { NoneContainsItself (tags_of tags.now.list) }
     ensures { TellsType result (rules.and_then
         (sum_type (tags_of tags.now.list) (value_type (told_operand a.now)) (value_type (told_operand i.now)))
@@ -162,12 +157,7 @@ fn dot_verdict(
     }
 }
 
-fn arrow_verdict(
-    alloc: Global,
-    name: &Ident,
-    ty: &CType,
-    tags: &Tags,
-) -> Result<Verdict, RuleFault>
+fn arrow_verdict(alloc: Global, name: &Ident, ty: &CType, tags: &Tags) -> Result<Verdict, RuleFault>
     requires ends { NoneContainsItself (tags_of tags.now.list) }
     requires sizes { SizesAreWithin (tags_of tags.now.list) }
     ensures { TellsVerdict result

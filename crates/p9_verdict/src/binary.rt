@@ -173,11 +173,7 @@ fn meet_any(left: &CType, left_zero: bool, right: &CType, right_zero: bool) -> b
 }
 
 #[tactic(auto, using(p9_types::proofs::Shapes::shapes))]
-fn equality_type(
-    alloc: Global,
-    a: &Operand,
-    b: &Operand,
-) -> Result<CType, RuleFault>
+fn equality_type(alloc: Global, a: &Operand, b: &Operand) -> Result<CType, RuleFault>
     ensures { TellsType result (equality_type (told_operand a.now) (told_operand b.now)) }
 {
     let left = value_type(alloc, &a.ty)?;
@@ -208,12 +204,8 @@ pub(crate) fn binary_type(
     let left = value_type(alloc, &a.ty)?;
     let right = value_type(alloc, &b.ty)?;
     match op {
-        CBinary::Mul
-        | CBinary::Div
-        | CBinary::Rem
-        | CBinary::And
-        | CBinary::Xor
-        | CBinary::Or => integers_type(left.get(), right.get()),
+        CBinary::Mul | CBinary::Div | CBinary::Rem | CBinary::And | CBinary::Xor | CBinary::Or =>
+            integers_type(left.get(), right.get()),
         CBinary::Add => sum_type(alloc, left.get(), right.get(), tags),
         CBinary::Sub => difference_type(alloc, left.get(), right.get(), tags),
         CBinary::Shl | CBinary::Shr => shift_type(left.get(), right.get()),

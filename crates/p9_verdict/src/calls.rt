@@ -33,7 +33,13 @@ pub fn value_rules(
         (type_of to.now) (is_null (told_operand value.now)))) }
 {
     let from = value_type(alloc, &value.ty)?;
-    let rule = conversion_rules(alloc, from.get(), to, tags, is_null_constant(value.constant))?;
+    let rule = conversion_rules(
+        alloc,
+        from.get(),
+        to,
+        tags,
+        is_null_constant(value.constant),
+    )?;
     Ok(rule)
 }
 

@@ -129,9 +129,7 @@ fn chosen(test: Constant, a: Constant, b: Constant) -> Constant
     match test {
         Constant::NotConstant | Constant::Null => Constant::NotConstant,
         Constant::Undefined => Constant::Undefined,
-        Constant::Value(word) => {
-            if word == 0 { b } else { a }
-        }
+        Constant::Value(word) => { if word == 0 { b } else { a } }
     }
 }
 
@@ -234,11 +232,8 @@ fn enumeration_constant(means: &Bind) -> Constant
 {
     match means {
         Bind::EnumValue(value) => Constant::Value(*value),
-        Bind::Nothing
-        | Bind::Outer(_)
-        | Bind::Static(_)
-        | Bind::Auto(_)
-        | Bind::TypeName(_) => Constant::NotConstant,
+        Bind::Nothing | Bind::Outer(_) | Bind::Static(_) | Bind::Auto(_) | Bind::TypeName(_) =>
+            Constant::NotConstant,
     }
 }
 

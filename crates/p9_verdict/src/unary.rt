@@ -88,11 +88,7 @@ fn is_stepped(alloc: Global, a: &Operand, tags: &Tags) -> Result<bool, NoMemory>
 }
 
 /// What `++` or `--` makes of its operand.
-pub(crate) fn step_verdict(
-    alloc: Global,
-    a: &Operand,
-    tags: &Tags,
-) -> Result<Verdict, RuleFault>
+pub(crate) fn step_verdict(alloc: Global, a: &Operand, tags: &Tags) -> Result<Verdict, RuleFault>
     requires { NoneContainsItself (tags_of tags.now.list) }
     ensures { TellsVerdict result (step_verdict (tags_of tags.now.list) (told_operand a.now)) }
 {
@@ -110,11 +106,7 @@ pub(crate) fn step_verdict(
 
 /// What `sizeof` makes of an operand's or a named type.
 #[tactic(auto, using(p9_types::proofs::Shapes::shapes))]
-pub(crate) fn size_verdict(
-    alloc: Global,
-    ty: &CType,
-    tags: &Tags,
-) -> Result<Verdict, RuleFault>
+pub(crate) fn size_verdict(alloc: Global, ty: &CType, tags: &Tags) -> Result<Verdict, RuleFault>
     requires { NoneContainsItself (tags_of tags.now.list) }
     ensures { TellsVerdict result (size_verdict (tags_of tags.now.list) (type_of ty.now)) }
 {
