@@ -4,10 +4,10 @@ use Rattle.p9_lang.specs.declared.types.CType.{CType}
 use Rattle.p9_lang.specs.Types.{TypeTree, TypeRow, Tags, type_of, types_of, type_row}
 use Rattle.p9_lang.specs.Rules.{Rule, ArgCount}
 use Rattle.p9_lang.specs.Expressions.{value_type, is_null, conversion_rules, argument_rules}
-use Rattle.p9_verdict.specs.declared.operand.Operand.{Operand}
-use Rattle.p9_verdict.specs.Least.{least, least_of_both}
-use Rattle.p9_verdict.specs.Told.{told_operand, told_operands}
-use Rattle.p9_verdict.proofs.Leasts.{least_append, least_of_both_assoc}
+use Rattle.p9_operand.specs.declared.operand.Operand.{Operand}
+use Rattle.p9_operand.specs.Least.{least, least_of_both}
+use Rattle.p9_operand.specs.Told.{told_operand, told_operands}
+use Rattle.p9_operand.proofs.Leasts.{least_append, least_of_both_assoc}
 
 -- what is told of arguments against parameters
 abbrev pub told_of : Tags → List CType → List Operand → Option Rule

@@ -1,4 +1,2 @@
-mod Operands
 mod Bodies
-pub mod Leasts
 mod Arguments

@@ -1,6 +1,1 @@
-pub mod Least
-pub mod Values
-pub mod Told
-pub mod Arities
 pub mod Choices
-pub mod Answers

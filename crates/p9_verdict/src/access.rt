@@ -7,16 +7,12 @@ ghost use Rattle.p9_lang.specs.Expressions.{value_type, sum_type, target_type, i
 ghost use Rattle.p9_lang.specs.Rules as rules;
 ghost use Rattle.p9_types.specs.Sizes.{SizesAreWithin};
 ghost use Rattle.p9_types.specs.FoundMembers.{member_in};
-ghost use Rattle.p9_verdict.specs.Told.{told_operand};
-ghost use Rattle.p9_verdict.specs.Answers.{TellsType, TellsVerdict};
+ghost use Rattle.p9_operand.specs.Told.{told_operand};
+ghost use Rattle.p9_operand.specs.Answers.{TellsType, TellsVerdict};
 
 use crate::binary::{asks, sum_type};
-use crate::copying::copied;
-use crate::kinds::{is_complete, is_function};
-use crate::operand::{Operand, Verdict};
-use crate::rule::{Rule, RuleFault};
-use crate::values::value_type;
 use p9_lang::{CType, Ident, Member, Tags};
+use p9_operand::{Operand, Rule, RuleFault, Verdict, copied, is_complete, is_function, value_type};
 use p9_types::{Found, find_member, is_void, number_of, tag_at, target_of};
 use std::alloc::Global;
 

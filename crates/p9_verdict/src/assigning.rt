@@ -5,20 +5,18 @@ ghost use Rattle.p9_lang.specs.TagRules.{NoneContainsItself};
 ghost use Rattle.p9_lang.specs.Conversions.{is_structure, same_type};
 ghost use Rattle.p9_lang.specs.Expressions.{assigned_rules, assign_rules, assign_verdict};
 ghost use Rattle.p9_types.specs.Sizes.{SizesAreWithin};
-ghost use Rattle.p9_verdict.specs.Least.{least};
-ghost use Rattle.p9_verdict.specs.Told.{told_least, told_operand};
-ghost use Rattle.p9_verdict.specs.Answers.{TellsVerdict};
+ghost use Rattle.p9_operand.specs.Least.{least};
+ghost use Rattle.p9_operand.specs.Told.{told_least, told_operand};
+ghost use Rattle.p9_operand.specs.Answers.{TellsVerdict};
 
 use crate::binary::binary_type;
-use crate::calls::value_rules;
-use crate::converting::conversion_rules;
-use crate::copying::copied;
-use crate::kinds::is_structure;
-use crate::operand::{Operand, Verdict};
-use crate::rule::{Rule, RuleFault, breaks_if, least_of_both};
 use crate::unary::is_writable;
 use p9_base::NoMemory;
 use p9_lang::{CBinary, CType, Tags};
+use p9_operand::{
+    Operand, Rule, RuleFault, Verdict, breaks_if, conversion_rules, copied, is_structure,
+    least_of_both, value_rules,
+};
 use p9_types::same_type;
 use std::alloc::Global;
 
@@ -78,7 +76,7 @@ fn assign_rules(
 }
 
 /// What an assignment makes of a place and a value; `op` is that of `+=` and its like.
-#[tactic(auto, using(crate::proofs::Leasts::least_append, crate::proofs::Leasts::unless_least_of))]
+#[tactic(auto, using(p9_operand::proofs::Leasts::least_append, p9_operand::proofs::Leasts::unless_least_of))]
 pub(crate) fn assign_verdict(
     alloc: Global,
     is_statement: bool,

@@ -4,20 +4,15 @@ ghost use Rattle.p9_lang.specs.Types.{type_of, tags_of};
 ghost use Rattle.p9_lang.specs.TagRules.{NoneContainsItself};
 ghost use Rattle.p9_lang.specs.Conversions.{is_integer, is_pointer, is_function, points_to, same_type};
 ghost use Rattle.p9_lang.specs.Expressions.{asks, is_complete_pointer, is_void_pointer, sum_type, difference_type, are_ordered, integers_type, shift_type, test_type, order_type, equality_type, binary_type};
-ghost use Rattle.p9_verdict.specs.Told.{told_rule, told_operand};
-ghost use Rattle.p9_verdict.specs.Answers.{TellsType};
+ghost use Rattle.p9_operand.specs.Told.{told_rule, told_operand};
+ghost use Rattle.p9_operand.specs.Answers.{TellsType};
 
-use crate::constants::is_null_constant;
-use crate::copying::copied;
-use crate::integers::{are_integers, common, promoted};
-use crate::kinds::{
-    is_complete_pointer, is_scalar, points_to_function, points_to_object, points_to_void,
-};
-use crate::operand::Operand;
-use crate::rule::{Rule, RuleFault};
-use crate::values::value_type;
 use p9_base::NoMemory;
 use p9_lang::{CBinary, CType, Tags};
+use p9_operand::{
+    Operand, Rule, RuleFault, are_integers, common, copied, is_complete_pointer, is_null_constant,
+    is_scalar, points_to_function, points_to_object, points_to_void, promoted, value_type,
+};
 use p9_types::{is_integer, is_pointer, same_type};
 use std::alloc::Global;
 

@@ -2,46 +2,19 @@
 ghost use Rattle.std.specs.Prelude.{◌≡◌, IfOk};
 ghost use Rattle.p9_lang.specs.Types.{type_of, types_of, type_row, tags_of};
 ghost use Rattle.p9_lang.specs.TagRules.{NoneContainsItself};
-ghost use Rattle.p9_lang.specs.Expressions.{value_type, is_null, conversion_rules, argument_rules, call_of, call_verdict};
+ghost use Rattle.p9_lang.specs.Expressions.{argument_rules, call_of, call_verdict};
 ghost use Rattle.p9_types.specs.Sizes.{SizesAreWithin};
-ghost use Rattle.p9_verdict.specs.Least.{least};
-ghost use Rattle.p9_verdict.specs.Told.{told_least, told_operand, told_operands};
-ghost use Rattle.p9_verdict.specs.Answers.{TellsVerdict};
+ghost use Rattle.p9_operand.specs.Least.{least};
+ghost use Rattle.p9_operand.specs.Told.{told_least, told_operands};
+ghost use Rattle.p9_operand.specs.Answers.{TellsVerdict};
 
-use crate::constants::is_null_constant;
-use crate::converting::conversion_rules;
-use crate::copying::copied;
-use crate::operand::{Operand, Verdict};
-use crate::rule::{Rule, RuleFault, least_of_both};
-use crate::values::value_type;
 use p9_base::NoMemory;
 use p9_lang::{CType, Tags};
+use p9_operand::{
+    Operand, Rule, RuleFault, Verdict, copied, least_of_both, value_rules, value_type,
+};
 use p9_types::{signature_of, target_of};
 use std::alloc::Global;
-
-/// The rule that an operand's value breaks where one of a type is asked.
-pub fn value_rules(
-    alloc: Global,
-    value: &Operand,
-    to: &CType,
-    tags: &Tags,
-) -> Result<Option<Rule>, NoMemory>
-    requires ends { NoneContainsItself (tags_of tags.now.list) }
-    requires sizes { SizesAreWithin (tags_of tags.now.list) }
-    ensures { IfOk result (λ rule. told_least rule
-        ≡ least (conversion_rules (tags_of tags.now.list) (value_type (told_operand value.now))
-        (type_of to.now) (is_null (told_operand value.now)))) }
-{
-    let from = value_type(alloc, &value.ty)?;
-    let rule = conversion_rules(
-        alloc,
-        from.get(),
-        to,
-        tags,
-        is_null_constant(value.constant),
-    )?;
-    Ok(rule)
-}
 
 fn argument_rules(
     alloc: Global,

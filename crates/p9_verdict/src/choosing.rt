@@ -4,19 +4,16 @@ ghost use Rattle.p9_lang.specs.Types.{type_of};
 ghost use Rattle.p9_lang.specs.Conversions.{is_pointer, is_scalar, is_void, same_type};
 ghost use Rattle.p9_lang.specs.Expressions.{value_type, choice_type, choose_verdict};
 ghost use Rattle.p9_verdict.specs.Choices.{choice_of_pointers};
-ghost use Rattle.p9_verdict.specs.Told.{told_operand};
-ghost use Rattle.p9_verdict.specs.Answers.{TellsType, TellsVerdict};
+ghost use Rattle.p9_operand.specs.Told.{told_operand};
+ghost use Rattle.p9_operand.specs.Answers.{TellsType, TellsVerdict};
 
 use crate::binary::meets_any;
-use crate::constants::is_null_constant;
-use crate::copying::copied;
-use crate::integers::{are_integers, common};
-use crate::kinds::is_scalar;
-use crate::operand::{Operand, Verdict};
-use crate::rule::{Rule, RuleFault};
-use crate::values::value_type;
 use p9_base::NoMemory;
 use p9_lang::CType;
+use p9_operand::{
+    Operand, Rule, RuleFault, Verdict, are_integers, common, copied, is_null_constant, is_scalar,
+    value_type,
+};
 use p9_types::{is_pointer, is_void, same_type};
 use std::alloc::Global;
 

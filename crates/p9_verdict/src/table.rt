@@ -5,22 +5,19 @@ ghost use Rattle.p9_lang.specs.TagRules.{NoneContainsItself};
 ghost use Rattle.p9_lang.specs.Expressions as expressions;
 ghost use Rattle.p9_lang.specs.Expressions.{of_one, of_two, of_three, verdict};
 ghost use Rattle.p9_types.specs.Sizes.{SizesAreWithin};
-ghost use Rattle.p9_verdict.specs.Told.{told_verdict, told_operands};
-ghost use Rattle.p9_verdict.specs.Answers.{TellsVerdict};
+ghost use Rattle.p9_operand.specs.Told.{told_verdict, told_operands};
+ghost use Rattle.p9_operand.specs.Answers.{TellsVerdict};
 
 use crate::access::{as_value, index_verdict, select_verdict};
 use crate::assigning::assign_verdict;
 use crate::binary::binary_type;
 use crate::calls::call_verdict;
 use crate::choosing::choose_verdict;
-use crate::copying::copied;
-use crate::integers::number_type;
-use crate::operand::{Operand, Verdict};
-use crate::parts::{one, three, two};
-use crate::rule::{Rule, RuleFault};
 use crate::unary::{cast_verdict, size_verdict, step_verdict, unary_verdict};
-use crate::values::value_type;
 use p9_lang::{CBinary, CType, CUnary, Ident, Kind, Tags};
+use p9_operand::{
+    Operand, Rule, RuleFault, Verdict, copied, number_type, one, three, two, value_type,
+};
 use std::alloc::Global;
 
 fn malformed() -> RuleFault

@@ -5,22 +5,18 @@ ghost use Rattle.p9_lang.specs.TagRules.{NoneContainsItself};
 ghost use Rattle.p9_lang.specs.Conversions.{is_integer, is_pointer, is_scalar, is_void};
 ghost use Rattle.p9_lang.specs.Expressions.{asks, value_type, is_writable, is_complete_pointer, address_type, integer_type, unary_verdict, step_verdict, size_verdict, are_of_one_kind, cast_verdict};
 ghost use Rattle.p9_lang.specs.Rules as rules;
-ghost use Rattle.p9_verdict.specs.Told.{told_operand};
-ghost use Rattle.p9_verdict.specs.Answers.{TellsType, TellsVerdict};
+ghost use Rattle.p9_operand.specs.Told.{told_operand};
+ghost use Rattle.p9_operand.specs.Answers.{TellsType, TellsVerdict};
 
 use crate::access::{as_object, as_value, target_type};
 use crate::binary::asks;
-use crate::constants::is_null_constant;
-use crate::copying::copied;
-use crate::integers::{are_integers, promoted};
-use crate::kinds::{
-    is_array, is_complete, is_complete_pointer, is_function, is_scalar, points_to_function,
-};
-use crate::operand::{Operand, Verdict};
-use crate::rule::{Rule, RuleFault};
-use crate::values::value_type;
 use p9_base::NoMemory;
 use p9_lang::{CType, CUnary, Tags};
+use p9_operand::{
+    Operand, Rule, RuleFault, Verdict, are_integers, copied, is_array, is_complete,
+    is_complete_pointer, is_function, is_null_constant, is_scalar, points_to_function, promoted,
+    value_type,
+};
 use p9_types::{is_integer, is_pointer, is_void};
 use sqlite_items::Boxed;
 use std::alloc::Global;

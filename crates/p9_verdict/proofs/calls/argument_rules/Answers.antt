@@ -1,7 +1,7 @@
 use Rattle.std.proofs.Common.{◌∙◌, sym}
 use Rattle.p9_lang.specs.Types.{tags_of}
 use Rattle.p9_types.proofs.Lists.{first_and_others, empty_below}
-use Rattle.p9_verdict.specs.Told.{told_least}
+use Rattle.p9_operand.specs.Told.{told_least}
 use Rattle.p9_verdict.proofs.Arguments.{arguments_next, arguments_over}
 use Rattle.p9_verdict.proofs.calls.argument_rules.Goals as goal
 

@@ -1,6 +1,6 @@
 use Rattle.std.proofs.Common.{length}
 use Rattle.p9_lang.specs.Types.{tags_of}
-use Rattle.p9_verdict.specs.Told.{told_least}
+use Rattle.p9_operand.specs.Told.{told_least}
 use Rattle.p9_verdict.proofs.Arguments.{Goes, told_of}
 use Rattle.p9_verdict.proofs.calls.argument_rules.Given as goal
 

@@ -2,12 +2,15 @@
 ghost use Rattle.std.specs.Prelude.{◌≡◌, [], IfOk, slice_get};
 ghost use Rattle.p9_lang.specs.Types.{type_of, tags_of};
 ghost use Rattle.p9_lang.specs.TagRules.{NoneContainsItself};
-ghost use Rattle.p9_lang.specs.Expressions.{target_name, name_of_tag, conversion_rules};
+ghost use Rattle.p9_lang.specs.Expressions.{value_type, is_null, target_name, name_of_tag, conversion_rules};
 ghost use Rattle.p9_types.specs.Sizes.{SizesAreWithin};
-ghost use Rattle.p9_verdict.specs.Least.{least};
-ghost use Rattle.p9_verdict.specs.Told.{told_least};
+ghost use Rattle.p9_operand.specs.Least.{least};
+ghost use Rattle.p9_operand.specs.Told.{told_least, told_operand};
 
+use crate::constants::is_null_constant;
+use crate::operand::Operand;
 use crate::rule::Rule;
+use crate::values::value_type;
 use p9_base::NoMemory;
 use p9_lang::{CType, Ident, Tags};
 use p9_types::{Conv, convert, number_of, tag_at, target_of};
@@ -63,4 +66,28 @@ pub fn conversion_rules(
         Conv::Ambiguous => Ok(Some(Rule::Ambiguous(target_name(alloc, to, tags)?))),
         Conv::No => Ok(Some(Rule::BadAssign)),
     }
+}
+
+/// The rule that an operand's value breaks where one of a type is asked.
+pub fn value_rules(
+    alloc: Global,
+    value: &Operand,
+    to: &CType,
+    tags: &Tags,
+) -> Result<Option<Rule>, NoMemory>
+    requires ends { NoneContainsItself (tags_of tags.now.list) }
+    requires sizes { SizesAreWithin (tags_of tags.now.list) }
+    ensures { IfOk result (λ rule. told_least rule
+        ≡ least (conversion_rules (tags_of tags.now.list) (value_type (told_operand value.now))
+        (type_of to.now) (is_null (told_operand value.now)))) }
+{
+    let from = value_type(alloc, &value.ty)?;
+    let rule = conversion_rules(
+        alloc,
+        from.get(),
+        to,
+        tags,
+        is_null_constant(value.constant),
+    )?;
+    Ok(rule)
 }

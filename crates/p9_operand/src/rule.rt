@@ -1,8 +1,8 @@
 // The rules that a file may break behind its grammar, and which of several is told.
 ghost use Rattle.std.specs.Prelude.{◌≡◌};
 ghost use Rattle.p9_lang.specs.Rules.{rule_number, breaks_if};
-ghost use Rattle.p9_verdict.specs.Least.{least, least_of_both};
-ghost use Rattle.p9_verdict.specs.Told.{told_rule, told_least};
+ghost use Rattle.p9_operand.specs.Least.{least, least_of_both};
+ghost use Rattle.p9_operand.specs.Told.{told_rule, told_least};
 
 use p9_base::NoMemory;
 use p9_lang::Ident;
@@ -42,7 +42,7 @@ pub enum RuleFault {
 
 impl From<NoMemory> for RuleFault {
     ghost use Rattle.std.specs.Prelude.{◌≡◌};
-    ghost use Rattle.p9_verdict.specs.declared.rule.RuleFault.TheVariants.{Memory};
+    ghost use Rattle.p9_operand.specs.declared.rule.RuleFault.TheVariants.{Memory};
 
     ghost from_gives = { λ _ fault. fault ≡ Memory };
 
@@ -53,7 +53,7 @@ impl From<NoMemory> for RuleFault {
 
 impl From<AllocError> for RuleFault {
     ghost use Rattle.std.specs.Prelude.{◌≡◌};
-    ghost use Rattle.p9_verdict.specs.declared.rule.RuleFault.TheVariants.{Memory};
+    ghost use Rattle.p9_operand.specs.declared.rule.RuleFault.TheVariants.{Memory};
 
     ghost from_gives = { λ _ fault. fault ≡ Memory };
 

@@ -4,12 +4,12 @@ use Rattle.p9_lang.specs.Types.{type_of}
 use Rattle.p9_lang.specs.Rules as rules
 use Rattle.p9_lang.specs.Constants as constants
 use Rattle.p9_lang.specs.Expressions as expressions
-use Rattle.p9_verdict.specs.declared.rule.Rule.{Rule}
-use Rattle.p9_verdict.specs.declared.rule.Rule.TheVariants as rule
-use Rattle.p9_verdict.specs.declared.operand.Constant.{Constant}
-use Rattle.p9_verdict.specs.declared.operand.Constant.TheVariants as constant
-use Rattle.p9_verdict.specs.declared.operand.Operand.{Operand}
-use Rattle.p9_verdict.specs.declared.operand.Verdict.{Verdict}
+use Rattle.p9_operand.specs.declared.rule.Rule.{Rule}
+use Rattle.p9_operand.specs.declared.rule.Rule.TheVariants as rule
+use Rattle.p9_operand.specs.declared.operand.Constant.{Constant}
+use Rattle.p9_operand.specs.declared.operand.Constant.TheVariants as constant
+use Rattle.p9_operand.specs.declared.operand.Operand.{Operand}
+use Rattle.p9_operand.specs.declared.operand.Verdict.{Verdict}
 
 abbrev pub told_rule : Rule → rules.Rule
 told_rule rule.Malformed = rules.Malformed

@@ -1,8 +1,8 @@
 -- Operands by how many there are.
 use Rattle.std.proofs.Common.{◌≡◌, ◌≤◌, ◌<◌, ℕ, List, [], ◌∷◌, length, None, refl, arith}
-use Rattle.p9_verdict.specs.declared.operand.Operand.{Operand}
-use Rattle.p9_verdict.specs.Told.{told_operands}
-use Rattle.p9_verdict.specs.Arities.{the_one, the_two, the_three}
+use Rattle.p9_operand.specs.declared.operand.Operand.{Operand}
+use Rattle.p9_operand.specs.Told.{told_operands}
+use Rattle.p9_operand.specs.Arities.{the_one, the_two, the_three}
 
 pub fewer_than_one : (os : List Operand) → length os < 1 → the_one (told_operands os) ≡ None
 fewer_than_one [] lt = refl

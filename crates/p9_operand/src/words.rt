@@ -4,7 +4,7 @@ ghost use Rattle.p9_lang.specs.Types.{type_of};
 ghost use Rattle.p9_lang.specs.Constants as constants;
 ghost use Rattle.p9_lang.specs.Constants.{divided, shifted, right_shift, value_or_undefined, word_operation, works_unsigned, narrowed, unary_constant};
 ghost use Rattle.p9_base.specs.Words.{signed_quotient, signed_remainder, shift_left};
-ghost use Rattle.p9_verdict.specs.Told.{told_constant};
+ghost use Rattle.p9_operand.specs.Told.{told_constant};
 
 use crate::integers::is_unsigned;
 use crate::operand::Constant;

@@ -5,10 +5,10 @@ use Rattle.p9_lang.specs.declared.types.CType.{CType}
 use Rattle.p9_lang.specs.Types.{TypeTree, type_of}
 use Rattle.p9_lang.specs.Rules as rules
 use Rattle.p9_lang.specs.Expressions as expressions
-use Rattle.p9_verdict.specs.declared.rule.RuleFault.{RuleFault}
-use Rattle.p9_verdict.specs.declared.rule.RuleFault.TheVariants.{Rule, Memory}
-use Rattle.p9_verdict.specs.declared.operand.Verdict.{Verdict}
-use Rattle.p9_verdict.specs.Told.{told_rule, told_verdict}
+use Rattle.p9_operand.specs.declared.rule.RuleFault.{RuleFault}
+use Rattle.p9_operand.specs.declared.rule.RuleFault.TheVariants.{Rule, Memory}
+use Rattle.p9_operand.specs.declared.operand.Verdict.{Verdict}
+use Rattle.p9_operand.specs.Told.{told_rule, told_verdict}
 
 abbrev pub TellsFault : {B : Type 0} → RuleFault → Result B rules.Rule → Type 0
 TellsFault (Rule rule) answer = answer ≡ Err (told_rule rule)

@@ -4,7 +4,7 @@ ghost use Rattle.p9_lang.specs.Types.{type_of, tags_of, meant};
 ghost use Rattle.p9_lang.specs.TagRules.{NoneContainsItself};
 ghost use Rattle.p9_lang.specs.Constants as constants;
 ghost use Rattle.p9_lang.specs.Constants.{is_null_constant, by_one, by_two, by_three, unary_constant, on_words, on_word, both_true, one_true, chosen, binary_constant, value_or_undefined, cast_constant, size_constant, enumeration_constant, constant_at};
-ghost use Rattle.p9_verdict.specs.Told.{told_constant, told_operand, told_operands};
+ghost use Rattle.p9_operand.specs.Told.{told_constant, told_operand, told_operands};
 
 use crate::kinds::points_to_void;
 use crate::operand::{Constant, Operand};

@@ -2,7 +2,7 @@
 ghost use Rattle.std.specs.Prelude.{◌≡◌, IfOk};
 ghost use Rattle.p9_lang.specs.Types.{Pointer, type_of};
 ghost use Rattle.p9_lang.specs.Conversions.{decayed};
-ghost use Rattle.p9_verdict.specs.Values.{type_in};
+ghost use Rattle.p9_operand.specs.Values.{type_in};
 
 use crate::copying::copied;
 use crate::kinds::is_function;
