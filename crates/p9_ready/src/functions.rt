@@ -3,7 +3,7 @@ ghost use Rattle.std.specs.Prelude.{◌↔◌, ◌≡◌, ◌⊎◌, ◌≤◌, 
 ghost use Rattle.p9_abs.specs.declared.instructions.Op.TheVariants.{Jmp, Ret};
 ghost use Rattle.p9_abs.specs.Validity.{EndsWell};
 ghost use Rattle.p9_abs.specs.Automatics.{IsInstructionOf, IsCode};
-ghost use Rattle.p9_frame.specs.Plans.{IsPlain};
+ghost use Rattle.p9_homed.specs.Plain.{IsPlain};
 ghost use Rattle.p9_frame.specs.Sizes.{stated_sum};
 ghost use Rattle.p9_ready.specs.Written.{IsPlainInstruction};
 

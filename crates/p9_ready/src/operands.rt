@@ -3,7 +3,7 @@ ghost use Rattle.std.specs.Prelude.{◌≡◌, ◌≢◌, ◌↔◌, true, IsTru
 ghost use Rattle.p9_abs.specs.Forms.{IsForm};
 ghost use Rattle.p9_abs.specs.Validity.{IsRegister, writes_last, IsWritable};
 ghost use Rattle.p9_abs.specs.Automatics.{IsOperandOf, IsInstructionOf};
-ghost use Rattle.p9_frame.specs.Plans.{NamesNoHome};
+ghost use Rattle.p9_homed.specs.Plain.{NamesNoHome};
 ghost use Rattle.p9_ready.specs.Written.{IsPlainInstruction, IsWrittenRegister};
 
 use p9_abs::{Abs, Op, Operand, decoded};
