@@ -1,3 +1,4 @@
 pub mod Entries
 pub mod Meaning
 pub mod Parts
+pub mod Fixing

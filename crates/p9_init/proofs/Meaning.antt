@@ -9,7 +9,7 @@ use Rattle.p9_cmean.specs.Cells.{Cell, Pointer}
 use Rattle.p9_cmean.specs.FirstContents as first
 use Rattle.p9_cmean.specs.FirstContents.{is_broken}
 use Rattle.p9_cmean.specs.Union.{Union}
-use Rattle.p9_tree.specs.TRun.{symbol_pointer}
+use Rattle.p9_tree.specs.Contents.{first_pointer}
 use Rattle.p9_init.specs.declared.cell.InitCell.{InitCell}
 use Rattle.p9_init.specs.declared.cell.InitCell.TheVariants.{Byte, Part}
 use Rattle.p9_init.specs.Cells.{part_cell, cell_of, cells_of, broken_cell, broken_from, with_entry, HasPart, IsPlaced, ArePlaced}
@@ -26,7 +26,7 @@ module _ (union : Union) (owner : ℕ) (symbols : List Symbol) where
   broken_part start end at part (Some pointer) false e = sym (ap (λ t. if t then cells.Byte 0 else cells.Part part pointer) e)
 
   through : (b : Bool) (part symbol offset : ℕ) →
-      cell_of union owner symbols (if b then Byte 0 else Part part symbol offset) ≡ (if b then cells.Byte 0 else part_cell part (symbol_pointer union owner (slice_get symbols symbol) offset))
+      cell_of union owner symbols (if b then Byte 0 else Part part symbol offset) ≡ (if b then cells.Byte 0 else part_cell part (first_pointer union owner (slice_get symbols symbol) offset))
   through true part symbol offset = refl
   through false part symbol offset = refl
 
@@ -34,7 +34,7 @@ module _ (union : Union) (owner : ℕ) (symbols : List Symbol) where
   broken_means start end at (Byte n) = refl
   broken_means start end at (Part part symbol offset) =
       through (is_broken start end at part) part symbol offset
-      ∙ broken_part start end at part (symbol_pointer union owner (slice_get symbols symbol) offset) (is_broken start end at part) refl
+      ∙ broken_part start end at part (first_pointer union owner (slice_get symbols symbol) offset) (is_broken start end at part) refl
 
   all_broken : (start end at : ℕ) (list : List InitCell) → cells_of union owner symbols (broken_from start end at list) ≡ first.broken_from start end at (cells_of union owner symbols list)
   all_broken start end at [] = refl

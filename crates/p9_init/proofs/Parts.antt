@@ -12,7 +12,7 @@ use Rattle.p9_cmean.specs.Cells.{Cell, Pointer}
 use Rattle.p9_cmean.specs.Access.{number_cells}
 use Rattle.p9_cmean.specs.FirstContents.{address_cells}
 use Rattle.p9_cmean.specs.Union.{Union}
-use Rattle.p9_tree.specs.TRun.{symbol_pointer}
+use Rattle.p9_tree.specs.Contents.{first_pointer}
 use Rattle.p9_init.specs.declared.cell.InitCell.{InitCell}
 use Rattle.p9_init.specs.declared.cell.InitCell.TheVariants.{Byte, Part}
 use Rattle.p9_init.specs.Cells.{part_cell, cell_of, cells_of, IsPlaced, ArePlaced}
@@ -125,7 +125,7 @@ address_parts (Some pointer) more = refl
 pub address_so_far : (pieces : List DataPiece) (raw : List ℕ) (symbol offset : ℕ) (rest list : List InitCell) →
     MeanSoFar pieces raw (Part 0 symbol offset ∷ Part 1 symbol offset ∷ Part 2 symbol offset ∷ Part 3 symbol offset ∷ rest) list → MeanSoFar (with_raw pieces raw ++ Address symbol offset ∷ []) [] rest list
 address_so_far pieces raw symbol offset rest list means union owner symbols =
-    let pointer : Option Pointer = symbol_pointer union owner (slice_get symbols symbol) offset in
+    let pointer : Option Pointer = first_pointer union owner (slice_get symbols symbol) offset in
     pieces_push union owner symbols (with_raw pieces raw) (Address symbol offset) (cells_of union owner symbols rest)
     ∙ (ap (λ l. pieces_cells union owner symbols (with_raw pieces raw) ++ l) (address_parts pointer (cells_of union owner symbols rest))
     ∙ (raw_so_far union owner symbols pieces raw (part_cell 0 pointer ∷ part_cell 1 pointer ∷ part_cell 2 pointer ∷ part_cell 3 pointer ∷ cells_of union owner symbols rest)

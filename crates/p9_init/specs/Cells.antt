@@ -6,7 +6,7 @@ use Rattle.p9_cmean.specs.Cells as cells
 use Rattle.p9_cmean.specs.Cells.{Cell, Pointer}
 use Rattle.p9_cmean.specs.FirstContents.{is_broken}
 use Rattle.p9_cmean.specs.Union.{Union}
-use Rattle.p9_tree.specs.TRun.{symbol_pointer}
+use Rattle.p9_tree.specs.Contents.{first_pointer}
 use Rattle.p9_init.specs.declared.cell.InitCell.{InitCell}
 use Rattle.p9_init.specs.declared.cell.InitCell.TheVariants.{Byte, Part}
 
@@ -19,7 +19,7 @@ part_cell part (Some pointer) = cells.Part part pointer
 
 abbrev pub cell_of : Union → (owner : ℕ) → List Symbol → InitCell → Cell
 cell_of union owner symbols (Byte n) = cells.Byte n
-cell_of union owner symbols (Part part symbol offset) = part_cell part (symbol_pointer union owner (slice_get symbols symbol) offset)
+cell_of union owner symbols (Part part symbol offset) = part_cell part (first_pointer union owner (slice_get symbols symbol) offset)
 
 abbrev pub cells_of : Union → (owner : ℕ) → List Symbol → List InitCell → List Cell
 cells_of union owner symbols list = map (cell_of union owner symbols) list

@@ -6,14 +6,14 @@ use Rattle.p9_lang.specs.Symbols.{Symbol}
 use Rattle.p9_cmean.specs.Cells.{Cell, Byte}
 use Rattle.p9_cmean.specs.FirstContents.{address_cells}
 use Rattle.p9_cmean.specs.Union.{Union}
-use Rattle.p9_tree.specs.TRun.{symbol_pointer}
+use Rattle.p9_tree.specs.Contents.{first_pointer}
 use Rattle.p9_init.specs.declared.cell.InitCell.{InitCell}
 use Rattle.p9_init.specs.Cells.{cells_of}
 
 -- in the module with this number and these symbols
 abbrev pub piece_cells : Union → (owner : ℕ) → List Symbol → DataPiece → List Cell
 piece_cells union owner symbols (Raw bytes) = map Byte bytes
-piece_cells union owner symbols (Address symbol offset) = address_cells (symbol_pointer union owner (slice_get symbols symbol) offset)
+piece_cells union owner symbols (Address symbol offset) = address_cells (first_pointer union owner (slice_get symbols symbol) offset)
 
 abbrev pub pieces_cells : Union → (owner : ℕ) → List Symbol → List DataPiece → List Cell
 pieces_cells union owner symbols pieces = flat_map (piece_cells union owner symbols) pieces

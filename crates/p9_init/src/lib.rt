@@ -2,5 +2,6 @@
 #![tactic(auto)]
 
 mod cell;
+mod fixed;
 mod parting;
 mod writing;

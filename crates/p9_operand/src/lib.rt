@@ -25,3 +25,4 @@ pub use operand::{Constant, Operand, Verdict};
 pub use parts::{one, three, two};
 pub use rule::{Rule, RuleFault, breaks_if, least_of_both};
 pub use values::{ValueType, value_type};
+pub use words::{narrowed, word_operation};

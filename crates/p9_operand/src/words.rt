@@ -110,7 +110,7 @@ fn is_less(is_unsigned: bool, a: u32, b: u32) -> bool
 }
 
 /// What an operator makes of two words, which are unsigned numbers or signed ones.
-pub(crate) fn word_operation(op: CBinary, is_unsigned: bool, a: u32, b: u32) -> Constant
+pub fn word_operation(op: CBinary, is_unsigned: bool, a: u32, b: u32) -> Constant
     ensures { told_constant result ≡ value_or_undefined (word_operation op is_unsigned a b) }
 {
     match op {
@@ -175,7 +175,7 @@ pub(crate) fn works_unsigned(op: CBinary, left: &CType, right: &CType) -> bool
 
 /// A word as the value of an integer type.
 #[tactic(auto, using(p9_types::proofs::Shapes::shapes))]
-pub(crate) fn narrowed(ty: &CType, word: u32) -> u32
+pub fn narrowed(ty: &CType, word: u32) -> u32
     ensures { result ≡ narrowed (type_of ty.now) word }
 {
     match ty {
