@@ -2,6 +2,10 @@
 #![tactic(auto)]
 
 mod cell;
+mod content;
+mod fault;
 mod fixed;
 mod parting;
 mod writing;
+
+pub use fault::InitFault;

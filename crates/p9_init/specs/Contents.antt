@@ -1,0 +1,54 @@
+-- What the program knows of an entry, as plain data; and what an image is.
+use Rattle.std.specs.Prelude.{ℕ, ◌≡◌, ◌≤◌, ◌+◌, Bool, true, IsTrue, List, length, map, All, Option, Some, None, IsSomeAnd, Result, Ok, Err}
+use Rattle.p9_abs.specs.declared.modules.DataPiece.{DataPiece}
+use Rattle.p9_lang.specs.Conversions.{is_scalar}
+use Rattle.p9_lang.specs.Initialisers.{BrokenItem, NotConstant, TooManyItems}
+use Rattle.p9_lang.specs.Layout.{layout, size_of, size_limit}
+use Rattle.p9_lang.specs.Symbols.{Symbol}
+use Rattle.p9_lang.specs.Types.{TypeTree, Tags, type_of}
+use Rattle.p9_cmean.specs.Union.{Union}
+use Rattle.p9_tree.specs.declared.module.TEntry.{TEntry}
+use Rattle.p9_tree.specs.Contents as contents
+use Rattle.p9_tree.specs.Contents.{writes_of, first_cells}
+use Rattle.p9_tree.specs.Modules.{Entry}
+use Rattle.p9_init.specs.declared.content.Content.{Content}
+use Rattle.p9_init.specs.declared.content.Content.TheVariants.{Word, AddressOf}
+use Rattle.p9_init.specs.declared.fault.InitFault.{InitFault}
+use Rattle.p9_init.specs.declared.fault.InitFault.TheVariants as fault
+use Rattle.p9_init.specs.Pieces.{pieces_cells}
+
+abbrev pub told : Content → contents.Content
+told (Word word) = contents.Word word
+told (AddressOf symbol offset) = contents.AddressOf symbol offset
+
+abbrev pub told_content : Option Content → Option contents.Content
+told_content None = None
+told_content (Some content) = Some (told content)
+
+abbrev pub told_write : TEntry → Content → contents.Write
+told_write entry content = record { offset = entry.offset; type = type_of entry.ty; content = told content }
+
+-- want of memory is no item's fault; the number is of no matter there
+abbrev pub broken_item : InitFault → BrokenItem
+broken_item (fault.NotConstant node) = record { number = node; rule = NotConstant }
+broken_item (fault.TooManyItems node) = record { number = node; rule = TooManyItems }
+broken_item fault.Memory = record { number = 0; rule = NotConstant }
+
+-- a scalar that lies inside the object of this type
+pub record Lies (tags : Tags) (type : TypeTree) (entry : Entry) : Type 0 where
+  pub scalar : IsTrue (is_scalar entry.type)
+  pub within : entry.offset + size_of tags entry.type ≤ size_of tags type
+
+-- each entry that isn't told to lie outside lies inside
+abbrev pub LieInside : Tags → TypeTree → List Entry → Type 0
+LieInside tags type entries = All (λ (entry : Entry). entry.is_inside ≡ true → Lies tags type entry) entries
+
+-- an object of this type has a size, which is within the limit
+abbrev pub HasSize : Tags → TypeTree → Type 0
+HasSize tags type = IsSomeAnd (layout tags type) (λ extent. extent.size ≤ size_limit)
+
+-- the pieces hold what the entries write, in every module of every program
+pub record IsImage (tags : Tags) (type : TypeTree) (entries : List Entry) (pieces : List DataPiece) : Type 0 where
+  pub writes : List contents.Write
+  pub are : writes_of entries ≡ Ok writes
+  pub hold : (union : Union) (owner : ℕ) (symbols : List Symbol) → pieces_cells union owner symbols pieces ≡ first_cells union owner symbols tags type writes
