@@ -2,3 +2,4 @@ pub mod Entries
 pub mod Meaning
 pub mod Parts
 pub mod Fixing
+pub mod Values

@@ -6,6 +6,7 @@ mod content;
 mod fault;
 mod fixed;
 mod parting;
+mod value;
 mod writing;
 
 pub use fault::InitFault;
