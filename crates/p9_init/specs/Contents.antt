@@ -57,15 +57,6 @@ broken_item (fault.NotConstant node) = record { number = node; rule = NotConstan
 broken_item (fault.TooManyItems node) = record { number = node; rule = TooManyItems }
 broken_item fault.Memory = record { number = 0; rule = NotConstant }
 
--- a scalar that lies inside the object of this type
-pub record Lies (tags : Tags) (type : TypeTree) (entry : Entry) : Type 0 where
-  pub scalar : IsTrue (is_scalar entry.type)
-  pub within : entry.offset + size_of tags entry.type ≤ size_of tags type
-
--- each entry that isn't told to lie outside lies inside
-abbrev pub LieInside : Tags → TypeTree → List Entry → Type 0
-LieInside tags type entries = All (λ (entry : Entry). entry.is_inside ≡ true → Lies tags type entry) entries
-
 -- an object of this type has a size, which is within the limit
 abbrev pub HasSize : Tags → TypeTree → Type 0
 HasSize tags type = IsSomeAnd (layout tags type) (λ extent. extent.size ≤ size_limit)

@@ -2,3 +2,4 @@ pub mod Cells
 pub mod Pieces
 pub mod Fixing
 pub mod Contents
+pub mod Images

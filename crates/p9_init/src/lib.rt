@@ -5,6 +5,7 @@ mod cell;
 mod content;
 mod fault;
 mod fixed;
+mod image;
 mod parting;
 mod value;
 mod writing;
