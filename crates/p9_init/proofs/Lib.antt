@@ -3,4 +3,4 @@ pub mod Meaning
 pub mod Parts
 pub mod Fixing
 pub mod Values
-pub mod Imaging
+pub mod Entering

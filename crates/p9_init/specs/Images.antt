@@ -3,15 +3,18 @@ use Rattle.std.specs.Prelude.{ℕ, ◌≡◌, ◌≤◌, ◌+◌, true, IsTrue, 
 use Rattle.p9_lang.specs.Conversions.{is_scalar}
 use Rattle.p9_lang.specs.Layout.{size_of}
 use Rattle.p9_lang.specs.Symbols.{Symbol}
-use Rattle.p9_lang.specs.Types.{TypeTree, Tags, type_of}
+use Rattle.p9_lang.specs.Types.{TypeTree, Tags, tags_of, type_of}
 use Rattle.p9_cmean.specs.Union.{Union}
 use Rattle.p9_tree.specs.declared.module.TEntry.{TEntry}
+use Rattle.p9_tree.specs.declared.module.TInit.{TInit}
+use Rattle.p9_tree.specs.declared.module.TModule.{TModule}
+use Rattle.p9_tree.specs.declared.module.TSym.{TSym}
 use Rattle.p9_tree.specs.Contents.{Write, entry_write, writes_of, with_writes}
 use Rattle.p9_tree.specs.Modules.{entry_of}
 use Rattle.p9_init.specs.declared.cell.InitCell.{InitCell}
 use Rattle.p9_init.specs.declared.content.Content.{Content}
 use Rattle.p9_init.specs.Cells.{cells_of, ArePlaced}
-use Rattle.p9_init.specs.Contents.{IsWithin, IsWritten, told_write}
+use Rattle.p9_init.specs.Contents.{HasSize, IsWithin, IsWritten, told_write}
 
 -- an entry that isn't told to lie outside is a scalar within so many cells
 pub record IsInside (entry : TEntry) (count : ℕ) : Type 0 where
@@ -39,3 +42,8 @@ pub record AllWritten (entries : List TEntry) (old new : List InitCell) : Type 0
 -- each entry of an object of this type that isn't told to lie outside lies inside
 abbrev pub LieInside : Tags → TypeTree → List TEntry → Type 0
 LieInside tags type entries = All (λ (entry : TEntry). EntryInside entry (size_of tags type)) entries
+
+-- the initialiser is one of the object that a symbol of the module names
+pub record IsObjectOf (m : TModule) (symbol : TSym) (init : TInit) : Type 0 where
+  pub size : HasSize (tags_of m.tags.list) (type_of symbol.ty)
+  pub inside : LieInside (tags_of m.tags.list) (type_of symbol.ty) init.entries

@@ -5,9 +5,10 @@ mod cell;
 mod content;
 mod fault;
 mod fixed;
-mod image;
+mod imaging;
 mod parting;
 mod value;
 mod writing;
 
 pub use fault::InitFault;
+pub use imaging::image;

@@ -1,7 +1,7 @@
 use Rattle.std.proofs.Common.{◌≡◌, ◌∷◌, arith}
 use Rattle.std.proofs.lemmas.Grind.{common_steps}
-use Rattle.p9_init.proofs.Imaging.{ahead_step}
-use Rattle.p9_init.proofs.image.write_entries.Goals as goal
+use Rattle.p9_init.proofs.Entering.{ahead_step}
+use Rattle.p9_init.proofs.imaging.write_entries.Goals as goal
 
 pub loop-rest-preserved : goal.loop-rest-preserved
 loop-rest-preserved c =

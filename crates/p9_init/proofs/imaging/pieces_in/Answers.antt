@@ -6,8 +6,8 @@ use Rattle.p9_init.specs.declared.cell.InitCell.TheVariants.{Byte}
 use Rattle.p9_tree.specs.declared.module.TEntry.{TEntry}
 use Rattle.p9_init.specs.Images.{AllWritten}
 use Rattle.p9_init.specs.Pieces.{MeanCells}
-use Rattle.p9_init.proofs.Imaging.{imaged}
-use Rattle.p9_init.proofs.image.image.Goals as goal
+use Rattle.p9_init.proofs.Entering.{imaged}
+use Rattle.p9_init.proofs.imaging.pieces_in.Goals as goal
 
 pub returns-clause-image : goal.returns-clause-image
 returns-clause-image c =

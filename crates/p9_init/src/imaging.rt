@@ -1,14 +1,15 @@
 // The first content of an object.
-ghost use Rattle.std.specs.Prelude.{◌≡◌, ◌≢◌, ◌⊎◌, ◌<◌, ◌≤◌, ◌+◌, ◌^◌, length, map, All, Err, IfOk, IfErr, OnOk};
+ghost use Rattle.std.specs.Prelude.{◌≡◌, ◌≢◌, ◌⊎◌, ◌<◌, ◌≤◌, ◌+◌, ◌^◌, length, map, slice_get, All, Some, Err, IfOk, IfErr, OnOk};
 ghost use Rattle.p9_abs.specs.Validity.{IsFilled};
 ghost use Rattle.p9_lang.specs.Layout.{size_of};
 ghost use Rattle.p9_lang.specs.TagRules.{NoneContainsItself};
 ghost use Rattle.p9_lang.specs.Types.{tags_of, type_of};
+ghost use Rattle.p9_tree.specs.declared.module.TSym.{TSym};
 ghost use Rattle.p9_tree.specs.Contents as contents;
 ghost use Rattle.p9_tree.specs.Modules.{entry_of, initialiser_of};
 ghost use Rattle.p9_init.specs.Cells.{ArePlaced};
 ghost use Rattle.p9_init.specs.Contents.{HasSize, IsImage, broken_item};
-ghost use Rattle.p9_init.specs.Images.{EntryInside, EntryWritten, AllWritten, LieInside};
+ghost use Rattle.p9_init.specs.Images.{EntryInside, EntryWritten, AllWritten, IsObjectOf, LieInside};
 
 use crate::cell::InitCell;
 use crate::content::content_of;
@@ -17,7 +18,7 @@ use crate::parting::pieces_of;
 use crate::value::write_content;
 use p9_abs::Pieces;
 use p9_lang::{CType, Tags};
-use p9_tree::{TEntry, TInit};
+use p9_tree::{TEntry, TInit, TModule};
 use p9_types::{TypeFault, layout};
 use std::alloc::Global;
 
@@ -67,10 +68,8 @@ fn write_entries(cells: &mut [InitCell], entries: &[TEntry]) -> Result<(), InitF
     Ok(())
 }
 
-/// The bytes and addresses that an initialiser leaves in its object, an object of this type; what no
-/// entry writes is 0. Refused is the first item that is no constant or is too many, by its node. A later
-/// entry writes over an earlier one; of an address that it writes over in part the other bytes become 0.
-pub fn image(
+// The pieces that an initialiser leaves in an object of this type.
+fn pieces_in(
     alloc: Global,
     init: &TInit,
     ty: &CType,
@@ -88,4 +87,21 @@ pub fn image(
     let mut cells = vec![in alloc; InitCell::Byte(0); size as usize]?;
     write_entries(&mut cells, init.entries.as_slice())?;
     Ok(pieces_of(alloc, &cells)?)
+}
+
+/// The bytes and addresses that an initialiser of a module leaves in its object; what no entry writes is
+/// 0. Refused is the first item that is no constant or is too many, by its node. A later entry writes
+/// over an earlier one; of an address that it writes over in part the other bytes become 0.
+pub fn image(alloc: Global, init: &TInit, whole: &TModule) -> Result<Pieces, InitFault>
+    requires ends { NoneContainsItself (tags_of whole.now.tags.list) }
+    requires symbol { init.now.symbol < length whole.now.symbols }
+    requires object { (symbol : TSym) → slice_get whole.now.symbols init.now.symbol ≡ Some symbol → IsObjectOf whole.now symbol init.now }
+    ensures image { (symbol : TSym) → slice_get whole.now.symbols init.now.symbol ≡ Some symbol
+        → IfOk result (IsImage (tags_of whole.now.tags.list) (type_of symbol.ty) (initialiser_of init.now).entries) }
+    ensures filled { IfOk result (λ pieces. All IsFilled pieces) }
+    ensures refused { IfErr result (λ fault. (fault ≡ InitFault.Memory)
+        ⊎ (contents.writes_of (initialiser_of init.now).entries ≡ Err (broken_item fault))) }
+{
+    let symbol = &whole.symbols.as_slice()[init.symbol as usize];
+    pieces_in(alloc, init, &symbol.ty, &whole.tags)
 }
