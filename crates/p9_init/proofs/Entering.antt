@@ -1,5 +1,5 @@
 -- Entries one after the other, and the whole image.
-use Rattle.std.proofs.Common.{ℕ, zero, suc, ◌+◌, ◌≡◌, ◌≤◌, List, [], ◌∷◌, length, map, replicate, refl, sym, ap, ◌∙◌, subst, arith, All, Result, Ok, Err, Some}
+use Rattle.std.proofs.Common.{ℕ, zero, suc, ◌≡◌, List, [], ◌∷◌, length, map, replicate, refl, sym, ap, ◌∙◌, subst, All, Err, Some}
 use Rattle.std.proofs.lemmas.List.Elements.{All-head, All-tail}
 use Rattle.std.proofs.lemmas.Option.{none-some}
 use Rattle.std.specs.Prelude.{slice_get}
@@ -7,17 +7,17 @@ use Rattle.p9_abs.specs.declared.modules.DataPiece.{DataPiece}
 use Rattle.p9_lang.specs.Initialisers.{BrokenItem}
 use Rattle.p9_lang.specs.Layout.{size_of}
 use Rattle.p9_lang.specs.Symbols.{Symbol}
-use Rattle.p9_lang.specs.Types.{TypeTree, Tags, type_of}
+use Rattle.p9_lang.specs.Types.{TypeTree, Tags}
 use Rattle.p9_cmean.specs.Cells as cells
 use Rattle.p9_cmean.specs.Cells.{Cell}
 use Rattle.p9_cmean.specs.Union.{Union}
 use Rattle.p9_tree.specs.declared.module.TEntry.{TEntry}
-use Rattle.p9_tree.specs.Contents.{Write, entry_write, with_write, writes_of, with_writes, first_cells}
-use Rattle.p9_tree.specs.Modules.{Entry, entry_of}
+use Rattle.p9_tree.specs.Contents.{entry_write, with_write, writes_of, with_writes}
+use Rattle.p9_tree.specs.Modules.{entry_of}
 use Rattle.p9_init.specs.declared.cell.InitCell.{InitCell}
 use Rattle.p9_init.specs.declared.cell.InitCell.TheVariants.{Byte, Part}
-use Rattle.p9_init.specs.Cells.{cells_of, IsPlaced, ArePlaced}
-use Rattle.p9_init.specs.Contents.{IsWritten, IsImage, told_write}
+use Rattle.p9_init.specs.Cells.{cells_of, ArePlaced}
+use Rattle.p9_init.specs.Contents.{IsImage, told_write}
 use Rattle.p9_init.specs.Images.{EntryInside, EntryWritten, AllWritten}
 use Rattle.p9_init.specs.Pieces.{MeanCells}
 

@@ -1,5 +1,5 @@
 -- Cells that are written over.
-use Rattle.std.proofs.Common.{ℕ, zero, suc, ◌+◌, ◌-◌, ◌≡◌, ◌≢◌, ◌≤◌, ◌<◌, ◌⊎◌, inl, inr, ◌&&◌, nat_le, nat_lt, Bool, true, false, if◌then◌else◌, Option, Some, None, List, [], ◌∷◌, ◌++◌, length, take, drop, slice_set, refl, sym, ap, ◌∙◌, subst, arith}
+use Rattle.std.proofs.Common.{ℕ, zero, suc, ◌+◌, ◌-◌, ◌≡◌, ◌≢◌, ◌≤◌, ◌<◌, ◌⊎◌, inl, inr, ◌&&◌, nat_le, nat_lt, Bool, true, false, if◌then◌else◌, Option, Some, None, List, [], ◌∷◌, length, slice_set, refl, sym, ap, ◌∙◌, subst, arith}
 use Rattle.std.proofs.lemmas.Bool.Decides.{nat_tests}
 use Rattle.std.proofs.lemmas.Grind.{common_steps}
 use Rattle.std.proofs.lemmas.Option.{none-some, same_Some, slice_get_past}
@@ -77,8 +77,10 @@ deal start end from at cells old cell value low high here is each i = by (decide
         cases_test : (t : Bool) → (a == b) ≡ t → (a ≡ b) ⊎ (a ≢ b)
         cases_test true e = inl (grind (arith, nat_tests))
         cases_test false e = inr (λ h. grind (arith, nat_tests))
+
     here_old : slice_get old at ≡ Some cell
     here_old = sym (each at ∙ by_test (nat_le from at && nat_lt at at) false (option_map (broken_cell start end at) (slice_get old at)) (slice_get old at) (outside_behind from at at (omega arith))) ∙ here
+
     by : (at ≡ i) ⊎ (at ≢ i) → slice_get (slice_set cells at value) i ≡ dealt start end from (at + 1) old i
     by (inl e) =
         subst (λ n. slice_get (slice_set cells at value) n ≡ dealt start end from (at + 1) old n) e
@@ -125,6 +127,7 @@ all_dealt start end at last cells old placed order behind bound each i = by (nat
     late : at ≤ i → (last ≡ end + 3) ⊎ (length old ≤ last) → option_map (broken_cell start end i) (slice_get old i) ≡ slice_get old i
     late h (inl e) = far_cell start end old i placed (inr (omega (arith, h, e, behind)))
     late h (inr e) = (let past : slice_get old i ≡ None = slice_get_past old i (omega (arith, h, e, behind)) in ap (option_map (broken_cell start end i)) past ∙ sym past)
+
     by : (low high : Bool) → nat_le (start - 3) i ≡ low → nat_lt i at ≡ high → slice_get cells i ≡ option_map (broken_cell start end i) (slice_get old i)
     by true true l h = each i ∙ by_test (nat_le (start - 3) i && nat_lt i at) true (option_map (broken_cell start end i) (slice_get old i)) (slice_get old i) (ap (λ t. t && nat_lt i at) l ∙ h)
     by true false l h =

@@ -1,5 +1,5 @@
 -- What cells stand for after an entry, and that addresses stay whole.
-use Rattle.std.proofs.Common.{ℕ, zero, suc, ◌+◌, ◌-◌, ◌≡◌, ◌≢◌, ◌≤◌, ◌<◌, ◌⊎◌, inl, inr, ◌&&◌, nat_lt, Bool, true, false, if◌then◌else◌, Option, Some, None, List, [], ◌∷◌, ◌++◌, length, map, take, drop, refl, sym, ap, ◌∙◌, subst, arith}
+use Rattle.std.proofs.Common.{ℕ, zero, suc, ◌+◌, ◌-◌, ◌≡◌, ◌≤◌, ◌<◌, ◌⊎◌, inl, inr, ◌&&◌, nat_lt, Bool, true, false, if◌then◌else◌, Option, Some, None, List, [], ◌∷◌, ◌++◌, length, take, drop, refl, sym, ap, ◌∙◌, subst, arith}
 use Rattle.std.proofs.lemmas.Bool.Decides.{nat_tests}
 use Rattle.std.proofs.lemmas.Option.{none-some, same_Some}
 use Rattle.std.specs.Prelude.{slice_get, option_map}
@@ -12,7 +12,7 @@ use Rattle.p9_cmean.specs.Union.{Union}
 use Rattle.p9_tree.specs.Contents.{first_pointer}
 use Rattle.p9_init.specs.declared.cell.InitCell.{InitCell}
 use Rattle.p9_init.specs.declared.cell.InitCell.TheVariants.{Byte, Part}
-use Rattle.p9_init.specs.Cells.{part_cell, cell_of, cells_of, broken_cell, broken_from, with_entry, HasPart, IsPlaced, ArePlaced}
+use Rattle.p9_init.specs.Cells.{part_cell, cell_of, cells_of, broken_cell, broken_from, with_entry, IsPlaced, ArePlaced}
 use Rattle.p9_init.proofs.Entries.{broken_at}
 
 -- WHAT CELLS STAND FOR
@@ -157,6 +157,7 @@ module _ (start : ℕ) (new list : List InitCell) (within : start + length new �
       both true true h p q = cc
       both true false h p q = cc
       both false b h p q = cc
+
       by : (a b : Bool) → nat_lt at (start + length new + part) ≡ a → nat_lt (start + part) (at + 4) ≡ b → (at + 4 ≤ start + part) ⊎ (start + length new + part ≤ at)
       by false b p q = inr (grind (arith, nat_tests))
       by true false p q = inl (grind (arith, nat_tests))
@@ -192,9 +193,11 @@ module _ (start : ℕ) (new list : List InitCell) (within : start + length new �
       no_first : (a b : Bool) → a ≡ false → (a && b) ≡ false
       no_first true b p = cc
       no_first false b p = refl
+
       no_second : (a b : Bool) → b ≡ false → (a && b) ≡ false
       no_second true b p = p
       no_second false b p = refl
+
       whole : (i + 4 ≤ start + part) ⊎ (start + length new + part ≤ i) → is_broken start (start + length new) i part ≡ false
       whole (inl h) = no_second (nat_lt i (start + length new + part)) (nat_lt (start + part) (i + 4)) (grind (arith, nat_tests))
       whole (inr h) = no_first (nat_lt i (start + length new + part)) (nat_lt (start + part) (i + 4)) (grind (arith, nat_tests))
@@ -219,6 +222,7 @@ module _ (start : ℕ) (new list : List InitCell) (within : start + length new �
       side : (base other : ℕ) → i ≡ base + part → other < 4 → (i + 4 ≤ start + part) ⊎ (start + length new + part ≤ i) → (base + other < start) ⊎ (start + length new ≤ base + other)
       side base other at h (inl l) = inl (omega (arith, at, h, l))
       side base other at h (inr l) = inr (omega (arith, at, l))
+
       clear : (base other : ℕ) → i ≡ base + part → other < 4 → (i + 4 ≤ start + part) ⊎ (start + length new + part ≤ i) → (base + other + 4 ≤ start + other) ⊎ (start + length new + other ≤ base + other)
       clear base other at h (inl l) = inl (omega (arith, at, l))
       clear base other at h (inr l) = inr (omega (arith, at, l))
@@ -245,6 +249,7 @@ module _ (start : ℕ) (new list : List InitCell) (within : start + length new �
           got [] n x q = absurd (none-some x q)
           got (y ∷ ys) zero x q = omega arith
           got (y ∷ ys) (suc n) x q = (let r = got ys n x q in omega (arith, r))
+
       by : (low high : Bool) → nat_lt i start ≡ low → nat_lt i (start + length new) ≡ high → IsPlaced (with_entry start new list) i part symbol offset
       by true high l h = (let b : i < start = grind (arith, nat_tests) in old_part placed i part symbol offset (inl b) e)
       by false false l h = (let b : start + length new ≤ i = grind (arith, nat_tests) in old_part placed i part symbol offset (inr b) e)

@@ -1,5 +1,5 @@
 -- Cells that are taken one after the other, or four at once where they are an address.
-use Rattle.std.proofs.Common.{ℕ, zero, suc, ◌+◌, ◌-◌, ◌*◌, ◌^◌, ◌/◌, ◌%◌, ◌≡◌, ◌≢◌, ◌≤◌, ◌<◌, Option, Some, None, List, [], ◌∷◌, ◌++◌, length, map, drop, flat_map, refl, sym, ap, ◌∙◌, subst, arith, append_assoc, append-nil, All}
+use Rattle.std.proofs.Common.{ℕ, zero, suc, ◌+◌, ◌≡◌, ◌≤◌, ◌<◌, Option, Some, None, List, [], ◌∷◌, ◌++◌, length, map, drop, refl, sym, ap, ◌∙◌, subst, arith, append_assoc, append-nil, All}
 use Rattle.std.proofs.lemmas.List.Elements.{All-append, All-cons, All-nil}
 use Rattle.std.proofs.lemmas.Option.{none-some, same_Some, slice_get_within}
 use Rattle.std.specs.Prelude.{slice_get}
@@ -9,13 +9,12 @@ use Rattle.p9_abs.specs.Validity.{IsFilled}
 use Rattle.p9_lang.specs.Symbols.{Symbol}
 use Rattle.p9_cmean.specs.Cells as cells
 use Rattle.p9_cmean.specs.Cells.{Cell, Pointer}
-use Rattle.p9_cmean.specs.Access.{number_cells}
 use Rattle.p9_cmean.specs.FirstContents.{address_cells}
 use Rattle.p9_cmean.specs.Union.{Union}
 use Rattle.p9_tree.specs.Contents.{first_pointer}
 use Rattle.p9_init.specs.declared.cell.InitCell.{InitCell}
 use Rattle.p9_init.specs.declared.cell.InitCell.TheVariants.{Byte, Part}
-use Rattle.p9_init.specs.Cells.{part_cell, cell_of, cells_of, IsPlaced, ArePlaced}
+use Rattle.p9_init.specs.Cells.{part_cell, cells_of, IsPlaced, ArePlaced}
 use Rattle.p9_init.specs.Pieces.{piece_cells, pieces_cells, MeanCells, with_raw}
 
 -- PLACES
@@ -75,6 +74,7 @@ behind_address symbol offset rest placed i part s f e =
   where
     all : List InitCell
     all = Part 0 symbol offset ∷ Part 1 symbol offset ∷ Part 2 symbol offset ∷ Part 3 symbol offset ∷ rest
+
     by : (base : ℕ) → suc (suc (suc (suc i))) ≡ base + part → part < 4 →
         ((other : ℕ) → other < 4 → slice_get (Part 0 symbol offset ∷ Part 1 symbol offset ∷ Part 2 symbol offset ∷ Part 3 symbol offset ∷ rest) (base + other) ≡ Some (Part other s f)) → IsPlaced rest i part s f
     by zero at few whole = absurd (omega (arith, at, few))

@@ -1,5 +1,5 @@
 -- Bytes and addresses as entries.
-use Rattle.std.proofs.Common.{ℕ, zero, suc, ◌+◌, ◌*◌, ◌^◌, ◌/◌, ◌%◌, ◌≡◌, ◌≤◌, ◌<◌, Option, Some, None, List, [], ◌∷◌, ◌++◌, length, map, take, drop, refl, sym, ap, ◌∙◌, subst, arith, length-append}
+use Rattle.std.proofs.Common.{ℕ, zero, suc, ◌+◌, ◌≡◌, ◌≤◌, ◌<◌, Option, Some, None, List, [], ◌∷◌, length, map, refl, sym, ap, ◌∙◌, subst, arith}
 use Rattle.std.proofs.lemmas.Grind.{common_steps}
 use Rattle.std.proofs.lemmas.Option.{none-some, same_Some}
 use Rattle.std.specs.Prelude.{IsTrue, slice_get}
@@ -13,13 +13,12 @@ use Rattle.p9_cmean.specs.Access.{number_cells}
 use Rattle.p9_cmean.specs.FirstContents as first
 use Rattle.p9_cmean.specs.FirstContents.{address_cells}
 use Rattle.p9_cmean.specs.Union.{Union}
-use Rattle.p9_tree.specs.Contents.{first_pointer, content_cells}
+use Rattle.p9_tree.specs.Contents.{first_pointer}
 use Rattle.p9_init.specs.declared.cell.InitCell.{InitCell}
 use Rattle.p9_init.specs.declared.cell.InitCell.TheVariants.{Byte, Part}
-use Rattle.p9_init.specs.declared.content.Content.{Content}
 use Rattle.p9_init.specs.declared.content.Content.TheVariants.{Word, AddressOf}
-use Rattle.p9_init.specs.Cells.{part_cell, cells_of, broken_from, with_entry, IsPlaced, ArePlaced}
-use Rattle.p9_init.specs.Contents.{told, IsWritten}
+use Rattle.p9_init.specs.Cells.{part_cell, cells_of, with_entry, IsPlaced, ArePlaced}
+use Rattle.p9_init.specs.Contents.{IsWritten}
 use Rattle.p9_init.proofs.Meaning.{entry_means, stay_placed, broken_size}
 
 -- the entry keeps the number of cells
@@ -72,6 +71,7 @@ parts_placed symbol offset j part s f e = by j refl e
           few = omega (arith, p, h);
           whole = λ other l. all_parts symbol offset other l ∙ (ap (λ (x : ℕ). Some (Part other x offset)) q ∙ ap (λ (x : ℕ). Some (Part other s x)) r);
         }
+
     by : (k : ℕ) → j ≡ k → slice_get (parts_of symbol offset) k ≡ Some (Part part s f) → IsPlaced (parts_of symbol offset) k part s f
     by zero d g = at 0 (omega arith) (same_Some (Part 0 symbol offset) (Part part s f) g)
     by (suc zero) d g = at 1 (omega arith) (same_Some (Part 1 symbol offset) (Part part s f) g)

@@ -1,6 +1,6 @@
 -- The cells of an object as they are made, and entries that are written into them: as the cells of an
 -- object, but that an address is that of a symbol by its number.
-use Rattle.std.specs.Prelude.{ℕ, suc, ◌+◌, ◌-◌, ◌≡◌, ◌≤◌, ◌<◌, if◌then◌else◌, Bool, List, [], ◌∷◌, ◌++◌, length, take, drop, slice_get, map, Option, Some, None}
+use Rattle.std.specs.Prelude.{ℕ, suc, ◌+◌, ◌≡◌, ◌<◌, if◌then◌else◌, List, [], ◌∷◌, ◌++◌, length, take, drop, slice_get, map, Option, Some, None}
 use Rattle.p9_lang.specs.Symbols.{Symbol}
 use Rattle.p9_cmean.specs.Cells as cells
 use Rattle.p9_cmean.specs.Cells.{Cell, Pointer}

@@ -1,7 +1,7 @@
 -- What the program knows of an entry, as plain data; and what an image is.
-use Rattle.std.specs.Prelude.{ℕ, ◌≡◌, ◌≤◌, ◌+◌, ◌⊎◌, Bool, true, IsTrue, List, length, map, All, Option, Some, None, IsSomeAnd, Result, Ok, Err}
+use Rattle.std.specs.Prelude.{ℕ, ◌≡◌, ◌≤◌, ◌+◌, ◌⊎◌, IsTrue, List, length, Option, Some, None, IsSomeAnd, Ok}
 use Rattle.p9_abs.specs.declared.modules.DataPiece.{DataPiece}
-use Rattle.p9_lang.specs.Conversions.{is_pointer, is_scalar}
+use Rattle.p9_lang.specs.Conversions.{is_pointer}
 use Rattle.p9_lang.specs.Initialisers.{BrokenItem, NotConstant, TooManyItems}
 use Rattle.p9_lang.specs.Layout.{layout, size_of, size_limit}
 use Rattle.p9_lang.specs.Symbols.{Symbol}

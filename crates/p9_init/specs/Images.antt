@@ -1,5 +1,5 @@
 -- Entries that are written one after the other.
-use Rattle.std.specs.Prelude.{ℕ, ◌≡◌, ◌≤◌, ◌+◌, true, IsTrue, List, length, map, All, Ok}
+use Rattle.std.specs.Prelude.{ℕ, ◌≡◌, true, IsTrue, List, length, map, All, Ok}
 use Rattle.p9_lang.specs.Conversions.{is_scalar}
 use Rattle.p9_lang.specs.Layout.{size_of}
 use Rattle.p9_lang.specs.Symbols.{Symbol}

@@ -6,7 +6,9 @@ ghost use Rattle.p9_tree.specs.Operations as operations;
 ghost use Rattle.p9_tree.specs.Contents as contents;
 ghost use Rattle.p9_init.specs.Fixing.{told};
 
-use p9_base::{low8, low16, sext8, sext16, word_complement, word_difference, word_negation, word_sum};
+use p9_base::{
+    low8, low16, sext8, sext16, word_complement, word_difference, word_negation, word_sum,
+};
 use p9_lang::CBinary;
 use p9_operand::{Constant, word_operation};
 use p9_tree::{BinOp, TTree, UnOp, Width};
@@ -249,13 +251,7 @@ fn chosen(test: Fixed, first: Fixed, second: Fixed) -> Fixed
     ensures { told result ≡ contents.on_number (λ word. if word == 0 then told second else told first) (told test) }
 {
     match test {
-        Fixed::Number(word) => {
-            if word == 0 {
-                second
-            } else {
-                first
-            }
-        }
+        Fixed::Number(word) => { if word == 0 { second } else { first } }
         Fixed::At { .. } | Fixed::NotFixed => Fixed::NotFixed,
     }
 }

@@ -69,12 +69,7 @@ fn write_entries(cells: &mut [InitCell], entries: &[TEntry]) -> Result<(), InitF
 }
 
 // The pieces that an initialiser leaves in an object of this type.
-fn pieces_in(
-    alloc: Global,
-    init: &TInit,
-    ty: &CType,
-    tags: &Tags,
-) -> Result<Pieces, InitFault>
+fn pieces_in(alloc: Global, init: &TInit, ty: &CType, tags: &Tags) -> Result<Pieces, InitFault>
     requires ends { NoneContainsItself (tags_of tags.now.list) }
     requires size { HasSize (tags_of tags.now.list) (type_of ty.now) }
     requires inside { LieInside (tags_of tags.now.list) (type_of ty.now) init.now.entries }

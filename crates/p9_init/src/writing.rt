@@ -51,7 +51,11 @@ fn break_addresses(cells: &mut [InitCell], start: usize, end: usize)
     ensures size { length cells.new ≡ length cells.old }
     ensures each { (i : ℕ) → slice_get cells.new i ≡ option_map (broken_cell start end i) (slice_get cells.old i) }
 {
-    let last = if end + 3 < cells.len() { end + 3 } else { cells.len() };
+    let last = if end + 3 < cells.len() {
+        end + 3
+    } else {
+        cells.len()
+    };
     let mut at = start.saturating_sub(3);
     while at < last {
         cells[at] = broken(start, end, at, cells[at]);

@@ -1,4 +1,4 @@
-use Rattle.std.proofs.Common.{ℕ, ◌≡◌, List, replicate, refl, sym, ap, ◌∙◌, subst, arith}
+use Rattle.std.proofs.Common.{◌≡◌, List, replicate, subst, arith}
 use Rattle.std.proofs.lemmas.Grind.{common_steps}
 use Rattle.p9_lang.specs.Types.{tags_of, type_of}
 use Rattle.p9_init.specs.declared.cell.InitCell.{InitCell}

@@ -1,4 +1,4 @@
-use Rattle.std.proofs.Common.{◌≡◌, ◌∷◌, arith}
+use Rattle.std.proofs.Common.{arith}
 use Rattle.std.proofs.lemmas.Grind.{common_steps}
 use Rattle.p9_init.proofs.Entering.{ahead_step}
 use Rattle.p9_init.proofs.imaging.write_entries.Goals as goal

@@ -1,13 +1,10 @@
-use Rattle.std.proofs.Common.{◌≡◌, ◌≤◌, ◌<◌, ◌+◌, ◌++◌, [], ◌∷◌, ℕ, length, List, refl, sym, ap, ◌∙◌, subst, arith, Some}
+use Rattle.std.proofs.Common.{◌≡◌, ◌+◌, ◌++◌, [], ◌∷◌, ℕ, List, sym, ap, ◌∙◌, subst, arith, Some}
 use Rattle.std.proofs.lemmas.Grind.{common_steps}
 use Rattle.std.proofs.lemmas.Option.{slice_get-get_or}
-use Rattle.std.specs.Prelude.{slice_get}
 use Rattle.p9_abs.specs.declared.modules.DataPiece.{DataPiece}
 use Rattle.p9_abs.specs.declared.modules.DataPiece.TheVariants.{Address}
-use Rattle.p9_init.specs.declared.cell.InitCell.TheVariants.{Byte, Part}
-use Rattle.p9_init.specs.Cells.{cells_of}
 use Rattle.p9_init.specs.Pieces.{with_raw, pieces_cells}
-use Rattle.p9_init.proofs.Parts.{StandsAt, at_byte, at_address, at_start, at_end}
+use Rattle.p9_init.proofs.Parts.{StandsAt, at_byte, at_address, at_end}
 use Rattle.p9_init.proofs.parting.pieces_of.Goals as goal
 
 pub loop-at-preserved-in-Byte : goal.loop-at-preserved-in-Byte

@@ -1,8 +1,7 @@
-use Rattle.std.proofs.Common.{ℕ, ◌+◌, ◌≡◌, ◌≤◌, List, [], length, refl, sym, ap, ◌∙◌, subst}
+use Rattle.std.proofs.Common.{ℕ, ◌+◌, ◌≤◌, [], length, sym, subst}
 use Rattle.p9_lang.specs.Layout.{size_of}
-use Rattle.p9_lang.specs.Types.{Tags, type_of}
+use Rattle.p9_lang.specs.Types.{type_of}
 use Rattle.p9_init.specs.declared.content.Content.{Content}
-use Rattle.p9_init.specs.declared.content.Content.TheVariants.{Word, AddressOf}
 use Rattle.p9_init.specs.Contents.{FitsType, IsWritten}
 use Rattle.p9_init.proofs.Values.{pointer_size}
 use Rattle.p9_init.proofs.value.write_content.Goals as goal

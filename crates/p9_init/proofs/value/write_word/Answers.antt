@@ -1,4 +1,4 @@
-use Rattle.std.proofs.Common.{ℕ, List, [], ◌∷◌, ◌/◌, ◌%◌, ◌≡◌, refl, ap, ◌∙◌}
+use Rattle.std.proofs.Common.{[], ◌∷◌, ◌/◌, ◌%◌, refl, ◌∙◌}
 use Rattle.p9_init.specs.Cells.{with_entry}
 use Rattle.p9_init.proofs.Values.{number_written}
 use Rattle.p9_init.proofs.value.write_word.Goals as goal

@@ -1,4 +1,4 @@
-use Rattle.std.proofs.Common.{ℕ, ◌+◌, ◌-◌, ◌≡◌, ◌≤◌, ◌&&◌, nat_le, nat_lt, if◌then◌else◌, length}
+use Rattle.std.proofs.Common.{ℕ, ◌-◌, ◌≡◌, ◌≤◌, ◌&&◌, nat_le, nat_lt, if◌then◌else◌, length}
 use Rattle.std.specs.Prelude.{slice_get, option_map}
 use Rattle.p9_init.specs.Cells.{broken_cell}
 use Rattle.p9_init.proofs.writing.break_addresses.Given as goal

@@ -1,4 +1,4 @@
-use Rattle.std.proofs.Common.{◌≡◌, ◌+◌, ◌-◌, length, ap, ◌∙◌, arith}
+use Rattle.std.proofs.Common.{◌+◌, ◌-◌, length, ap, ◌∙◌, arith}
 use Rattle.p9_init.proofs.Entries.{written}
 use Rattle.p9_init.proofs.writing.write.Goals as goal
 use borrow.Rule.Slice.PartMut.{put_mid}
