@@ -1,3 +1,4 @@
+mod Arrays
 pub mod Entries
 pub mod Meaning
 pub mod Parts

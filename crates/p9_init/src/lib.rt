@@ -12,3 +12,6 @@ mod writing;
 
 pub use fault::InitFault;
 pub use imaging::image;
+
+#[cfg(test)]
+mod tests;
