@@ -1,2 +1,3 @@
 mod Operands
 pub mod Leasts
+mod TestTags

@@ -10,6 +10,8 @@ mod kinds;
 mod operand;
 mod parts;
 mod rule;
+#[cfg(test)]
+mod tests;
 mod values;
 mod words;
 

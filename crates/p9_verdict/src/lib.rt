@@ -8,6 +8,8 @@ mod binary;
 mod calls;
 mod choosing;
 mod table;
+#[cfg(test)]
+mod tests;
 mod unary;
 
 pub use assigning::assigned_rules;
