@@ -1,5 +1,5 @@
 -- How far apart lines are entered.
-use Rattle.std.proofs.Common.{ℕ, zero, suc, ◌+◌, ◌==◌, ◌≡◌, ◌≤◌, ◌<◌, ◌||◌, ◌&&◌, Bool, true, false, not, refl, sym, ap, ◌∙◌, arith, if◌then◌else◌, List, [], ◌∷◌, length, slice_index}
+use Rattle.std.proofs.Common.{ℕ, zero, suc, ◌+◌, ◌==◌, ◌≡◌, ◌≤◌, ◌<◌, ◌||◌, ◌&&◌, Bool, true, false, not, refl, sym, ap, ◌∙◌, arith, if◌then◌else◌, List, [], ◌∷◌, length}
 use Rattle.p9_r3k.specs.declared.inst.Inst.{Inst}
 use Rattle.p9_r3k.specs.declared.lines.Line.{Line}
 use Rattle.p9_r3k.specs.Effects.{reads, reads_pair, writes_pair, branches}
@@ -16,7 +16,7 @@ use Rattle.p9_slot.proofs.Moving.{Moves, moves_by, AllMove}
 use Rattle.p9_slot.proofs.Entering.{enters, enters-idle}
 use Rattle.p9_slot.proofs.Numbers.{number}
 use Rattle.p9_slot.proofs.Choosing.{blocks-move}
-use Rattle.p9_slot.proofs.Clauses.{Answer, blocks_of, entered_at, number_of, lines-same, lines-count, moved-index, answer-enter}
+use Rattle.p9_slot.proofs.Clauses.{Answer, blocks_of, entered_at, lines-same, lines-count, is-within, moved-index, answer-enter}
 
 -- No-ops before an instruction are for HI and LO, or for a load before it
 
@@ -95,20 +95,25 @@ enters-next r at (Exchanged line lead ∷ rest) (suc zero) all h = go (delays le
 enters-next r at (Exchanged line lead ∷ rest) (suc (suc i)) all h =
     enters-next nothing (at + needed r lead.inst + 2) rest i all.1 (omega (arith, h))
 
-number-near : (r : Recent) (at : ℕ) (bs : List Block) (i : ℕ) → number r at bs i ≤ enters r at bs i + 1
-number-near r at [] i = omega arith
-number-near r at (Single line target ∷ rest) zero = omega arith
-number-near r at (Single line target ∷ rest) (suc i) = number-near (after r line.inst) (at + needed r line.inst + 1 + slot line.inst) rest i
-number-near r at (Exchanged line lead ∷ rest) zero = omega arith
-number-near r at (Exchanged line lead ∷ rest) (suc zero) = omega arith
-number-near r at (Exchanged line lead ∷ rest) (suc (suc i)) = number-near nothing (at + needed r lead.inst + 2) rest i
+-- what comes behind another has not changed places with the next
+number-early : (r : Recent) (at : ℕ) (bs : List Block) (i : ℕ) → AllMove bs → is_at delays (lines_of bs) i ≡ true → number r at bs i ≡ enters r at bs i
+number-early r at [] i all h = refl
+number-early r at (Single line target ∷ rest) zero all h = refl
+number-early r at (Single line target ∷ rest) (suc i) all h = number-early (after r line.inst) (at + needed r line.inst + 1 + slot line.inst) rest i all h
+number-early r at (Exchanged line lead ∷ rest) zero all h =
+    absurd (let m : Moves line.inst lead.inst = moves_by line.inst lead.inst all.0 in
+    let z : true ≡ false = sym h ∙ m.quick in cc)
+number-early r at (Exchanged line lead ∷ rest) (suc zero) all h = refl
+number-early r at (Exchanged line lead ∷ rest) (suc (suc i)) all h = number-early nothing (at + needed r lead.inst + 2) rest i all.1 h
 
 pub is_spaced : (old new : List Line) (moved : List ℕ) → Answer old new moved → IsSpaced old new moved
 is_spaced old new moved h = record {
   first = answer-enter old new moved h 0 ∙ enters-idle 0 (blocks_of old);
   next = λ i within. next_at i within;
-  near = λ i within.
-      omega (arith, number-near nothing 0 (blocks_of old) i, answer-enter old new moved h i, moved-index old moved i h.numbered within);
+  early = λ i slow.
+      moved-index old moved i h.numbered (is-within delays old i slow)
+      ∙ (number-early nothing 0 (blocks_of old) i (blocks-move (is_named old) 0 old) (ap (λ l. is_at delays l i) (lines-same old) ∙ slow)
+      ∙ sym (answer-enter old new moved h i));
 }
   where
     next_at : (i : ℕ) → i < length old → enter moved (length new) (suc i) ≤ enter moved (length new) i + most_between old i

@@ -90,9 +90,9 @@ TargetsDivide old new moved =
 abbrev pub most_between : List Line → ℕ → ℕ
 most_between old i = 1 + (if is_at delays old i then 1 else 0) + (if is_at writes_pair old (suc i) then 2 else 0)
 
--- the first line is entered first, each other one not far behind the one before it, and each stands where it is entered
--- or directly behind
+-- the first line is entered first, each other one not far behind the one before it, and a branch, jump or load stands
+-- where it is entered
 pub record IsSpaced (old new : List Line) (moved : List ℕ) : Type 0 where
   pub first : enter moved (length new) 0 ≡ 0
   pub next : (i : ℕ) → i < length old → enter moved (length new) (suc i) ≤ enter moved (length new) i + most_between old i
-  pub near : (i : ℕ) → i < length old → slice_index moved i ≤ enter moved (length new) i + 1
+  pub early : (i : ℕ) → is_at delays old i ≡ true → slice_index moved i ≡ enter moved (length new) i

@@ -64,7 +64,7 @@ impl<'a> Layout<'a> {
         modules: &'a Vec<AModule>,
         last: &'a AModule,
         table: &'a Table,
-        data: &Places,
+        objects: &Places,
         routines: &[Routine],
         places: &'a [u32],
         text_size: u32,
@@ -72,9 +72,9 @@ impl<'a> Layout<'a> {
         requires builtin { last.now ≡ builtin_module }
         requires table { IsTable (linked modules.now.items) table.now.defs.entries }
         requires chosen { ChoosesAll (linked modules.now.items) table.now.defs.entries }
-        requires inits { data.now.inits.items ≡ spots 0 (inits_of (linked modules.now.items)) }
-        requires bss { data.now.bss.items ≡ spots data.now.data_size (bss_of (linked modules.now.items)) }
-        requires data_size { data.now.data_size ≡ init_size (linked modules.now.items) }
+        requires inits { objects.now.inits.items ≡ spots 0 (inits_of (linked modules.now.items)) }
+        requires bss { objects.now.bss.items ≡ spots objects.now.data_size (bss_of (linked modules.now.items)) }
+        requires data_size { objects.now.data_size ≡ init_size (linked modules.now.items) }
         requires routines { routines.now ≡ routines_of modules.now.items }
         ensures symbols { IfOk result (λ l. l.program ≡ linked modules.now.items) }
         ensures places { IfOk result (λ l. place_held l ≡ place_of modules.now.items (placing_of modules.now.items places.now text_size)) }
@@ -84,7 +84,7 @@ impl<'a> Layout<'a> {
             program: Program::new(modules, last),
             defs: &table.defs,
             entries: Entries::new(alloc, routines)?,
-            offsets: Offsets::new(alloc, data)?,
+            offsets: Offsets::new(alloc, objects)?,
             places,
             data_start: data_start(text_size)?,
         })

@@ -19,7 +19,7 @@ returns-clause-places c =
     let offset = offset_held c.in_ok-new-2.field-0 in
     let found : (d : Def) → offset d ≡ offset_in 0 (data_objects (linked modules)) d = λ d.
     c.in_ok-new-2.ensures d
-    ∙ offset_found (linked modules) d c.args.data.now.inits.items c.args.data.now.bss.items c.requires.inits (c.requires.bss ∙ ap (λ n. spots n (bss_of (linked modules))) c.requires.data_size) in
+    ∙ offset_found (linked modules) d c.args.objects.now.inits.items c.args.objects.now.bss.items c.requires.inits (c.requires.bss ∙ ap (λ n. spots n (bss_of (linked modules))) c.requires.data_size) in
     let each : (d : Def) → number d ≡ entry_number (routines_of modules) 0 d = λ d. c.in_ok-new.ensures d ∙ ap (λ rs. entry_number rs 0 d) c.requires.routines in
     places_same modules c.args.places.now c.args.text_size c.in_ok-data_start.field-0 offset number c.in_ok-data_start.ensures found each
 
@@ -30,7 +30,7 @@ returns-clause-addresses c =
     let offset = offset_held c.in_ok-new-2.field-0 in
     let found : (d : Def) → offset d ≡ offset_in 0 (data_objects (linked modules)) d = λ d.
     c.in_ok-new-2.ensures d
-    ∙ offset_found (linked modules) d c.args.data.now.inits.items c.args.data.now.bss.items c.requires.inits (c.requires.bss ∙ ap (λ n. spots n (bss_of (linked modules))) c.requires.data_size) in
+    ∙ offset_found (linked modules) d c.args.objects.now.inits.items c.args.objects.now.bss.items c.requires.inits (c.requires.bss ∙ ap (λ n. spots n (bss_of (linked modules))) c.requires.data_size) in
     let each : (d : Def) → number d ≡ entry_number (routines_of modules) 0 d = λ d. c.in_ok-new.ensures d ∙ ap (λ rs. entry_number rs 0 d) c.requires.routines in
     let seen : c.new.result ≡ linked modules = c.new.ensures ∙ ap (λ ms. ms ++ c.args.last.now ∷ []) c.deref.ensures.value ∙ ap (λ m. modules ++ m ∷ []) c.requires.builtin in
     addresses_same modules c.new.result c.args.table.now.defs.entries (placing_of modules c.args.places.now c.args.text_size)
