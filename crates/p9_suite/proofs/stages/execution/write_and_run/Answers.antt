@@ -3,7 +3,7 @@ use Rattle.p9_suite.proofs.StageLemmas.{all_refused, all_went_on, on_streams}
 use Rattle.p9_suite.specs.Scene.{objects}
 use Rattle.p9_suite.specs.Simulation.{RunsFile}
 use Rattle.p9_suite.specs.Stages.{WritesFile, OnStreams}
-use Rattle.p9_suite.proofs.commands.run.write_and_run.Goals as goal
+use Rattle.p9_suite.proofs.stages.execution.write_and_run.Goals as goal
 
 pub returns-in_err-write_file : goal.returns-in_err-write_file
 returns-in_err-write_file g c =

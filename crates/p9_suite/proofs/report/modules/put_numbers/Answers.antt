@@ -1,7 +1,7 @@
 use Rattle.std.proofs.Common.{◌++◌, codes, decimal}
 use Rattle.p9_suite.specs.Answers.{newline}
 use Rattle.p9_suite.proofs.Puts.{then_put, first_cut}
-use Rattle.p9_suite.proofs.report.put_numbers.Goals as goal
+use Rattle.p9_suite.proofs.report.modules.put_numbers.Goals as goal
 
 pub returns-then-put_number : goal.returns-then-put_number
 returns-then-put_number g c =
