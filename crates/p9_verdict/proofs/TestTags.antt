@@ -1,5 +1,5 @@
 -- What the tests' structures are.
-use Rattle.std.proofs.Common.{◌≡◌, ◌<◌, ℕ, zero, suc, List, [], ◌∷◌, ◌++◌, false, Some, codes, sym, ap, ◌∙◌, subst, arith}
+use Rattle.std.proofs.Common.{◌≡◌, ℕ, zero, suc, List, [], ◌∷◌, ◌++◌, false, Some, codes, sym, ap, ◌∙◌, subst, arith}
 use Rattle.p9_lang.specs.declared.types.Member.{Member}
 use Rattle.p9_lang.specs.declared.types.Tag.{Tag}
 use Rattle.p9_lang.specs.declared.types.CType.TheVariants as ctype
