@@ -1,5 +1,5 @@
 -- Operands by how many there are.
-use Rattle.std.proofs.Common.{◌≡◌, ◌≤◌, ◌<◌, ℕ, List, [], ◌∷◌, length, None, refl, arith}
+use Rattle.std.proofs.Common.{◌≡◌, ◌≤◌, ◌<◌, List, [], ◌∷◌, length, None, refl, arith}
 use Rattle.p9_operand.specs.declared.operand.Operand.{Operand}
 use Rattle.p9_operand.specs.Told.{told_operands}
 use Rattle.p9_operand.specs.Arities.{the_one, the_two, the_three}

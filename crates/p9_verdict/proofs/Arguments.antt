@@ -1,7 +1,7 @@
 -- Arguments against parameters, one after the other.
-use Rattle.std.proofs.Common.{◌≡◌, List, [], ◌∷◌, ◌++◌, length, nat_eq, true, false, Option, Some, None, refl, sym, ap, ◌∙◌}
+use Rattle.std.proofs.Common.{◌≡◌, List, [], ◌∷◌, length, nat_eq, false, Option, Some, None, refl, sym, ap, ◌∙◌}
 use Rattle.p9_lang.specs.declared.types.CType.{CType}
-use Rattle.p9_lang.specs.Types.{TypeTree, TypeRow, Tags, type_of, types_of, type_row}
+use Rattle.p9_lang.specs.Types.{Tags, type_of, types_of, type_row}
 use Rattle.p9_lang.specs.Rules.{Rule, ArgCount}
 use Rattle.p9_lang.specs.Expressions.{value_type, is_null, conversion_rules, argument_rules}
 use Rattle.p9_operand.specs.declared.operand.Operand.{Operand}

@@ -1,5 +1,5 @@
 -- The structures that the tests' types name.
-use Rattle.std.specs.Prelude.{false, [], ◌∷◌, Some, None, codes}
+use Rattle.std.specs.Prelude.{false, [], ◌∷◌, None, codes}
 use Rattle.p9_lang.specs.Types.{Int, TagTree, Tags}
 use Rattle.p9_lang.specs.LayoutExamples.{of, structure}
 
