@@ -5,4 +5,3 @@ pub mod Levels
 pub mod NodeLists
 pub mod Searching
 pub mod Tables
-pub mod Shapes
