@@ -1,0 +1,6 @@
+pub mod Names
+pub mod Operators
+pub mod Expressions
+pub mod Statements
+pub mod Modules
+pub mod Examples

@@ -1,0 +1,91 @@
+-- The typed statement of a statement. A kind of node that has no clause here is no statement.
+use Rattle.std.specs.Prelude.{Bool, true, false, List, [], ◌∷◌, map, Option, Some, None}
+use Rattle.p9_lang.specs.declared.tree.Kind.TheVariants as kind
+use Rattle.p9_lang.specs.Types.{TypeTree}
+use Rattle.p9_lang.specs.Trees.{node, none, more}
+use Rattle.p9_lang.specs.Constants.{Constant, NotConstant, Undefined, Null, constant_of}
+use Rattle.p9_lang.specs.Constants as constants
+use Rattle.p9_lang.specs.Modules.{Typed, TypedRow}
+use Rattle.p9_cmean.specs.Declarations.{Automatic, declared_by, declared_in}
+use Rattle.p9_tree.specs.Trees.{Tree, Seq, Stmt, Nothing, Effect, Block, If, IfElse, While, DoWhile, For, Switch, Break, Continue, Return, Stmts, end, thereafter, Arms, no_arms, Case, Default, Arm}
+use Rattle.p9_lower.specs.Names.{Setting, name_tree}
+use Rattle.p9_lower.specs.Operators.{passed_tree, assigned_tree}
+use Rattle.p9_lower.specs.Expressions.{value_tree}
+
+-- DECLARATIONS do what their initialisers do, which are assignments
+
+abbrev pub initial_tree : Setting → Automatic → Typed → Tree
+initial_tree setting a e = assigned_tree setting.tags e a.name.type (name_tree setting a.name.means) (value_tree setting e)
+
+abbrev pub with_initial : Setting → Automatic → Option Typed → List Tree → List Tree
+with_initial setting a None others = others
+with_initial setting a (Some e) others = initial_tree setting a e ∷ others
+
+abbrev pub initial_trees : Setting → List Automatic → List Tree
+initial_trees setting [] = []
+initial_trees setting (a ∷ others) = with_initial setting a a.initialiser (initial_trees setting others)
+
+-- one tree after the other
+abbrev pub sequence : Tree → List Tree → Tree
+sequence first [] = first
+sequence first (next ∷ others) = Seq first (sequence next others)
+
+abbrev pub effects : List Tree → Stmt
+effects [] = Nothing
+effects (first ∷ others) = Effect (sequence first others)
+
+-- LABELS of a `switch`. One without a value, which no valid module has, is a part that does nothing.
+abbrev pub case_arm : Constant → Arms → Arms
+case_arm NotConstant others = Arm Nothing others
+case_arm Undefined others = Arm Nothing others
+case_arm (constants.Value word) others = Case word others
+case_arm Null others = Arm Nothing others
+
+-- STATEMENTS of a function with this result
+abbrev mutual
+  pub stmt_tree : Setting → (result : TypeTree) → Typed → Stmt
+  stmt_tree setting result (node kind.Block label parts) = Block (map (λ a. a.number) (declared_in parts)) (stmt_trees setting result parts)
+  stmt_tree setting result (node (kind.Declaration spec inits) label parts) =
+      effects (initial_trees setting (declared_by (node (kind.Declaration spec inits) label parts)))
+  stmt_tree setting result (node kind.Expression label none) = Nothing
+  stmt_tree setting result (node kind.Expression label (more e none)) = Effect (value_tree setting e)
+  stmt_tree setting result (node kind.If label (more test (more first none))) = If (value_tree setting test) (stmt_tree setting result first)
+  stmt_tree setting result (node kind.If label (more test (more first (more second none)))) =
+      IfElse (value_tree setting test) (stmt_tree setting result first) (stmt_tree setting result second)
+  stmt_tree setting result (node kind.While label (more test (more body none))) =
+      While (value_tree setting test) (stmt_tree setting result body)
+  stmt_tree setting result (node kind.Do label (more body (more test none))) =
+      DoWhile (stmt_tree setting result body) (value_tree setting test)
+  stmt_tree setting result (node (kind.For true test step) label (more first others)) =
+      loop_tree setting result (Some (value_tree setting first)) test step others
+  stmt_tree setting result (node (kind.For false test step) label others) = loop_tree setting result None test step others
+  stmt_tree setting result (node kind.Switch label (more e arms)) = Switch (value_tree setting e) (arm_trees setting result arms)
+  stmt_tree setting result (node kind.Case label (more constant none)) = Nothing
+  stmt_tree setting result (node kind.Default label none) = Nothing
+  stmt_tree setting result (node kind.Break label none) = Break
+  stmt_tree setting result (node kind.Continue label none) = Continue
+  stmt_tree setting result (node kind.Return label none) = Return None
+  stmt_tree setting result (node kind.Return label (more e none)) = Return (Some (passed_tree setting.tags e result (value_tree setting e)))
+  stmt_tree setting result (node k label parts) = Nothing
+
+  pub stmt_trees : Setting → (result : TypeTree) → TypedRow → Stmts
+  stmt_trees setting result none = end
+  stmt_trees setting result (more first others) = thereafter (stmt_tree setting result first) (stmt_trees setting result others)
+
+  -- `for` behind its first part, with its test and its step where there are such
+  pub loop_tree : Setting → (result : TypeTree) → (first : Option Tree) → (test step : Bool) → TypedRow → Stmt
+  loop_tree setting result first true true (more test (more step (more body none))) =
+      For first (Some (value_tree setting test)) (Some (value_tree setting step)) (stmt_tree setting result body)
+  loop_tree setting result first true false (more test (more body none)) =
+      For first (Some (value_tree setting test)) None (stmt_tree setting result body)
+  loop_tree setting result first false true (more step (more body none)) =
+      For first None (Some (value_tree setting step)) (stmt_tree setting result body)
+  loop_tree setting result first false false (more body none) = For first None None (stmt_tree setting result body)
+  loop_tree setting result first test step others = Nothing
+
+  pub arm_trees : Setting → (result : TypeTree) → TypedRow → Arms
+  arm_trees setting result none = no_arms
+  arm_trees setting result (more (node kind.Case label (more constant none)) others) =
+      case_arm (constant_of setting.tags constant) (arm_trees setting result others)
+  arm_trees setting result (more (node kind.Default label none) others) = Default (arm_trees setting result others)
+  arm_trees setting result (more first others) = Arm (stmt_tree setting result first) (arm_trees setting result others)

@@ -1,0 +1,7 @@
+//! The typed trees of a typed module, as a definition, and laws that they mean what the module means.
+//! Each law is the contract of a function that does nothing.
+#![tactic(auto)]
+
+mod laws;
+
+pub use laws::{runs_of_lowered, trees_of_lowered};
