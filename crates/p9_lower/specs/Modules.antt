@@ -15,7 +15,7 @@ use Rattle.p9_lower.specs.Names.{Setting, outer_symbol, static_symbol}
 use Rattle.p9_lower.specs.Statements.{stmt_tree}
 
 abbrev pub setting_of : Source → Setting
-setting_of m = record { tags = m.tags; symbols = symbols m }
+setting_of m = record { tags = m.tags; symbols = symbols m; result = Void }
 
 -- FUNCTIONS. The automatics are the parameters and then those of blocks, in the order of the nodes.
 
@@ -31,7 +31,7 @@ function_of setting symbol item d = record {
   symbol = symbol;
   sizes = automatic_sizes setting d;
   parameters = length (parameter_types d.name.type);
-  body = stmt_tree setting (result_of d.name.type) d.block;
+  body = stmt_tree (record setting { result = result_of d.name.type }) d.block;
   nodes = weighed_nodes item;
 }
 

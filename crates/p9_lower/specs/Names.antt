@@ -3,16 +3,17 @@
 -- by its own.
 use Rattle.std.specs.Prelude.{ℕ, Bool, true, false, ◌&&◌, List, Option, Some, None}
 use Rattle.p9_lang.specs.Names.{same_name}
-use Rattle.p9_lang.specs.Types.{Tags, Meant, Nothing, Outer, Static, EnumValue, TypeName}
+use Rattle.p9_lang.specs.Types.{TypeTree, Tags, Meant, Nothing, Outer, Static, EnumValue, TypeName}
 use Rattle.p9_lang.specs.Types as types
 use Rattle.p9_lang.specs.Symbols.{Symbol}
 use Rattle.p9_cmean.specs.Union.{number_from, has_number}
 use Rattle.p9_tree.specs.Trees.{Tree, Const, Addr, Auto}
 
--- the structures of a module, and its symbols
+-- the structures of a module, its symbols, and the type of a function's result
 pub record Setting : Type 0 where
   pub tags : Tags
   pub symbols : List Symbol
+  pub result : TypeTree
 
 abbrev pub has_no_number : Option ℕ → Bool
 has_no_number None = true

@@ -1,7 +1,6 @@
 -- The typed statement of a statement. A kind of node that has no clause here is no statement.
 use Rattle.std.specs.Prelude.{Bool, true, false, List, [], ◌∷◌, map, Option, Some, None}
 use Rattle.p9_lang.specs.declared.tree.Kind.TheVariants as kind
-use Rattle.p9_lang.specs.Types.{TypeTree}
 use Rattle.p9_lang.specs.Trees.{node, none, more}
 use Rattle.p9_lang.specs.Constants.{Constant, NotConstant, Undefined, Null, constant_of}
 use Rattle.p9_lang.specs.Constants as constants
@@ -41,51 +40,51 @@ case_arm Undefined others = Arm Nothing others
 case_arm (constants.Value word) others = Case word others
 case_arm Null others = Arm Nothing others
 
--- STATEMENTS of a function with this result
+-- STATEMENTS
 abbrev mutual
-  pub stmt_tree : Setting → (result : TypeTree) → Typed → Stmt
-  stmt_tree setting result (node kind.Block label parts) = Block (map (λ a. a.number) (declared_in parts)) (stmt_trees setting result parts)
-  stmt_tree setting result (node (kind.Declaration spec inits) label parts) =
+  pub stmt_tree : Setting → Typed → Stmt
+  stmt_tree setting (node kind.Block label parts) = Block (map (λ a. a.number) (declared_in parts)) (stmt_trees setting parts)
+  stmt_tree setting (node (kind.Declaration spec inits) label parts) =
       effects (initial_trees setting (declared_by (node (kind.Declaration spec inits) label parts)))
-  stmt_tree setting result (node kind.Expression label none) = Nothing
-  stmt_tree setting result (node kind.Expression label (more e none)) = Effect (value_tree setting e)
-  stmt_tree setting result (node kind.If label (more test (more first none))) = If (value_tree setting test) (stmt_tree setting result first)
-  stmt_tree setting result (node kind.If label (more test (more first (more second none)))) =
-      IfElse (value_tree setting test) (stmt_tree setting result first) (stmt_tree setting result second)
-  stmt_tree setting result (node kind.While label (more test (more body none))) =
-      While (value_tree setting test) (stmt_tree setting result body)
-  stmt_tree setting result (node kind.Do label (more body (more test none))) =
-      DoWhile (stmt_tree setting result body) (value_tree setting test)
-  stmt_tree setting result (node (kind.For true test step) label (more first others)) =
-      loop_tree setting result (Some (value_tree setting first)) test step others
-  stmt_tree setting result (node (kind.For false test step) label others) = loop_tree setting result None test step others
-  stmt_tree setting result (node kind.Switch label (more e arms)) = Switch (value_tree setting e) (arm_trees setting result arms)
-  stmt_tree setting result (node kind.Case label (more constant none)) = Nothing
-  stmt_tree setting result (node kind.Default label none) = Nothing
-  stmt_tree setting result (node kind.Break label none) = Break
-  stmt_tree setting result (node kind.Continue label none) = Continue
-  stmt_tree setting result (node kind.Return label none) = Return None
-  stmt_tree setting result (node kind.Return label (more e none)) = Return (Some (passed_tree setting.tags e result (value_tree setting e)))
-  stmt_tree setting result (node k label parts) = Nothing
+  stmt_tree setting (node kind.Expression label none) = Nothing
+  stmt_tree setting (node kind.Expression label (more e none)) = Effect (value_tree setting e)
+  stmt_tree setting (node kind.If label (more test (more first none))) = If (value_tree setting test) (stmt_tree setting first)
+  stmt_tree setting (node kind.If label (more test (more first (more second none)))) =
+      IfElse (value_tree setting test) (stmt_tree setting first) (stmt_tree setting second)
+  stmt_tree setting (node kind.While label (more test (more body none))) =
+      While (value_tree setting test) (stmt_tree setting body)
+  stmt_tree setting (node kind.Do label (more body (more test none))) =
+      DoWhile (stmt_tree setting body) (value_tree setting test)
+  stmt_tree setting (node (kind.For true test step) label (more first others)) =
+      loop_tree setting (Some (value_tree setting first)) test step others
+  stmt_tree setting (node (kind.For false test step) label others) = loop_tree setting None test step others
+  stmt_tree setting (node kind.Switch label (more e arms)) = Switch (value_tree setting e) (arm_trees setting arms)
+  stmt_tree setting (node kind.Case label (more constant none)) = Nothing
+  stmt_tree setting (node kind.Default label none) = Nothing
+  stmt_tree setting (node kind.Break label none) = Break
+  stmt_tree setting (node kind.Continue label none) = Continue
+  stmt_tree setting (node kind.Return label none) = Return None
+  stmt_tree setting (node kind.Return label (more e none)) = Return (Some (passed_tree setting.tags e setting.result (value_tree setting e)))
+  stmt_tree setting (node k label parts) = Nothing
 
-  pub stmt_trees : Setting → (result : TypeTree) → TypedRow → Stmts
-  stmt_trees setting result none = end
-  stmt_trees setting result (more first others) = thereafter (stmt_tree setting result first) (stmt_trees setting result others)
+  pub stmt_trees : Setting → TypedRow → Stmts
+  stmt_trees setting none = end
+  stmt_trees setting (more first others) = thereafter (stmt_tree setting first) (stmt_trees setting others)
 
   -- `for` behind its first part, with its test and its step where there are such
-  pub loop_tree : Setting → (result : TypeTree) → (first : Option Tree) → (test step : Bool) → TypedRow → Stmt
-  loop_tree setting result first true true (more test (more step (more body none))) =
-      For first (Some (value_tree setting test)) (Some (value_tree setting step)) (stmt_tree setting result body)
-  loop_tree setting result first true false (more test (more body none)) =
-      For first (Some (value_tree setting test)) None (stmt_tree setting result body)
-  loop_tree setting result first false true (more step (more body none)) =
-      For first None (Some (value_tree setting step)) (stmt_tree setting result body)
-  loop_tree setting result first false false (more body none) = For first None None (stmt_tree setting result body)
-  loop_tree setting result first test step others = Nothing
+  pub loop_tree : Setting → (first : Option Tree) → (test step : Bool) → TypedRow → Stmt
+  loop_tree setting first true true (more test (more step (more body none))) =
+      For first (Some (value_tree setting test)) (Some (value_tree setting step)) (stmt_tree setting body)
+  loop_tree setting first true false (more test (more body none)) =
+      For first (Some (value_tree setting test)) None (stmt_tree setting body)
+  loop_tree setting first false true (more step (more body none)) =
+      For first None (Some (value_tree setting step)) (stmt_tree setting body)
+  loop_tree setting first false false (more body none) = For first None None (stmt_tree setting body)
+  loop_tree setting first test step others = Nothing
 
-  pub arm_trees : Setting → (result : TypeTree) → TypedRow → Arms
-  arm_trees setting result none = no_arms
-  arm_trees setting result (more (node kind.Case label (more constant none)) others) =
-      case_arm (constant_of setting.tags constant) (arm_trees setting result others)
-  arm_trees setting result (more (node kind.Default label none) others) = Default (arm_trees setting result others)
-  arm_trees setting result (more first others) = Arm (stmt_tree setting result first) (arm_trees setting result others)
+  pub arm_trees : Setting → TypedRow → Arms
+  arm_trees setting none = no_arms
+  arm_trees setting (more (node kind.Case label (more constant none)) others) =
+      case_arm (constant_of setting.tags constant) (arm_trees setting others)
+  arm_trees setting (more (node kind.Default label none) others) = Default (arm_trees setting others)
+  arm_trees setting (more first others) = Arm (stmt_tree setting first) (arm_trees setting others)
