@@ -5,4 +5,7 @@ pub mod Operating
 pub mod Trees
 pub mod Quiet
 pub mod Binary
+pub mod Access
+pub mod Assigning
+pub mod Updating
 pub mod Examples

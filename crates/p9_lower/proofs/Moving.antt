@@ -102,7 +102,7 @@ word_subtracted objects (Address p) q m e = ap Ok (some_pointer p q (λ start. w
 word_subtracted objects (Missing c) q m e = cc
 
 -- to a member or substructure
-inside_moves : (objects : List Object) (offset : ℕ) (r : Result (Option cells.Pointer) Cause) (x : Value)
+pub inside_moves : (objects : List Object) (offset : ℕ) (r : Result (Option cells.Pointer) Cause) (x : Value)
     → and_go r (moved objects false offset (λ start. word_sum start offset)) ≡ Ok x
     → (q : Option cells.Pointer) × (r ≡ Ok q) × (moved_value (λ start. word_sum start offset) q ≡ x)
 inside_moves objects offset (Ok q) x e = (q, refl, moved_gives objects false offset (λ start. word_sum start offset) q x e)

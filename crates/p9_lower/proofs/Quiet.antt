@@ -58,11 +58,11 @@ operate_quiet op v w s =
     used_quiet v s (λ x. used w s (λ y. done_at nowhere s (of_two op s.objects x y)))
     (λ x. used_quiet w s (λ y. done_at nowhere s (of_two op s.objects x y)) (λ y. done_quiet nowhere s (of_two op s.objects x y)))
 
-left_true : (a b : Bool) → (a && b) ≡ true → a ≡ true
+pub left_true : (a b : Bool) → (a && b) ≡ true → a ≡ true
 left_true true b e = refl
 left_true false b e = cc
 
-right_true : (a b : Bool) → (a && b) ≡ true → b ≡ true
+pub right_true : (a b : Bool) → (a && b) ≡ true → b ≡ true
 right_true true b e = e
 right_true false b e = cc
 

@@ -1,5 +1,6 @@
 -- The trees of operators, conversions, accesses and assignments, from those of their operands. Types
--- decide widths, unsigned forms, and by how many bytes pointers move.
+-- decide widths, unsigned forms, and by how many bytes pointers move. Where types leave an operation
+-- without a meaning, which no valid module has, its operands are evaluated.
 use Rattle.std.specs.Prelude.{ℕ, ◌==◌, Bool, true, false, if◌then◌else◌, Option, Some, None}
 use Rattle.p9_base.specs.Words.{word_sum, word_product, word_negation}
 use Rattle.p9_lang.specs.declared.tree.CBinary.{CBinary}
@@ -17,7 +18,6 @@ use Rattle.p9_tree.specs.declared.tree.Width.TheVariants as width
 use Rattle.p9_tree.specs.declared.tree.BinOp.{BinOp}
 use Rattle.p9_tree.specs.declared.tree.BinOp.TheVariants as bin
 use Rattle.p9_tree.specs.Trees.{Tree, Const, Addr, Load, Store, Update, Copy, Bin, Conv}
-use Rattle.p9_lower.specs.Names.{no_tree}
 
 -- WIDTHS. What isn't read or stored counts as a word.
 
@@ -50,7 +50,7 @@ abbrev pub content_tree : contents.Content → Width → Tree → Tree
 content_tree contents.Integer w address = Load w address
 content_tree contents.Reference w address = Load w address
 content_tree contents.Aggregate w address = address
-content_tree contents.Nothing w address = no_tree
+content_tree contents.Nothing w address = address
 
 abbrev pub read_tree : TypeTree → Tree → Tree
 read_tree type address = content_tree (content_of type) (width_of type) address
@@ -75,7 +75,7 @@ divided_tree size bytes = if size == 1 then bytes else Bin bin.Div bytes (Const 
 
 -- to a member or substructure
 abbrev pub inner_tree : Option ℕ → Tree → Tree
-inner_tree None address = no_tree
+inner_tree None address = address
 inner_tree (Some offset) address = moved_tree address (Const offset)
 
 -- OPERATIONS OF TWO OPERANDS. `&&` and `||` are no operations on two words.
@@ -131,16 +131,16 @@ stored_tree Same tree = tree
 stored_tree Integer tree = tree
 stored_tree Null tree = Const 0
 stored_tree (Inner offset) tree = moved_tree tree (Const offset)
-stored_tree Ambiguous tree = no_tree
-stored_tree No tree = no_tree
+stored_tree Ambiguous tree = tree
+stored_tree No tree = tree
 
 abbrev pub converted_tree : Conversion → (to : TypeTree) → Tree → Tree
 converted_tree Same to tree = narrowed_tree (width_of to) tree
 converted_tree Integer to tree = narrowed_tree (width_of to) tree
 converted_tree Null to tree = Const 0
 converted_tree (Inner offset) to tree = moved_tree tree (Const offset)
-converted_tree Ambiguous to tree = no_tree
-converted_tree No to tree = no_tree
+converted_tree Ambiguous to tree = tree
+converted_tree No to tree = tree
 
 -- an expression as a value of a type
 abbrev pub passed_tree : Tags → Typed → (to : TypeTree) → Tree → Tree
@@ -150,7 +150,7 @@ passed_tree tags e to tree = converted_tree (conversion_to tags e to) to tree
 abbrev pub cast_tree : contents.Content → TypeTree → Tree → Tree
 cast_tree contents.Integer type tree = narrowed_tree (width_of type) tree
 cast_tree contents.Reference type tree = tree
-cast_tree contents.Aggregate type tree = no_tree
+cast_tree contents.Aggregate type tree = tree
 cast_tree contents.Nothing type tree = tree
 
 -- ASSIGNMENTS, of an expression to an lvalue of a type by its address. A structure is copied.
