@@ -50,10 +50,11 @@ stored_done w s a (Missing c) x objects e h = cc
 stored_same : (place : Place) (w : Width) (s : State) (a a' v x : Value) → Stands a a' → of_width w v ≡ Ok x
     → plays.Same Stands (or_wrong place s (stored_width w s.objects a x) (λ objects. Done x (record s { objects = objects }))) (store w a' v s)
 stored_same place w s a a' v x h e =
-    result_same Stands place s (stored_width w s.objects a x) _ _ (λ objects f.
-    (x,
-    stored_done w s a' v x objects e (stands_ok (λ y. stored_width w s.objects y x) a a' objects h (λ c y g. cc) f),
-    stands_refl x))
+    result_same Stands place s (stored_width w s.objects a x) _ _ (λ objects f. (
+      x,
+      stored_done w s a' v x objects e (stands_ok (λ y. stored_width w s.objects y x) a a' objects h (λ c y g. cc) f),
+      stands_refl x,
+    ))
 
 store_by : (content : Content) (tags : Tags) (type : TypeTree) (place : Place) (s : State) (a a' v x : Value) → content_of type ≡ content → Stands a a' → of_width (width_of type) v ≡ Ok x
     → plays.Same Stands (store_content content tags type place a x s) (store (width_of type) a' v s)
@@ -102,7 +103,7 @@ moved_is_there : (to : ℕ → ℕ) (q : Option cells.Pointer) → IsThere (move
 moved_is_there to None = tt
 moved_is_there to (Some p) = tt
 
-inside_is_there : (objects : List Object) (offset : ℕ) (v x : Value) → moved_inside objects offset v ≡ Ok x → IsThere x
+pub inside_is_there : (objects : List Object) (offset : ℕ) (v x : Value) → moved_inside objects offset v ≡ Ok x → IsThere x
 inside_is_there objects offset v x e =
     let m = inside_moves objects offset (pointer_in v) x e in subst IsThere m.2 (moved_is_there (λ start. word_sum start offset) m.0)
 
@@ -212,14 +213,15 @@ structure_done around place read type to to' from from' s h g =
     result_same Stands place s (written_whole (size_of around.tags type) (alignment_of around.tags type) s.objects to from cells) _ _ (λ objects f.
     let n = size_of around.tags type in
     let r : read_whole n 1 s.objects from' ≡ Ok cells =
-        stands_ok (λ v. read_whole n 1 s.objects v) from from' cells g (λ c y i. cc) (read_bytes n (alignment_of around.tags type) s.objects from cells e) in
+    stands_ok (λ v. read_whole n 1 s.objects v) from from' cells g (λ c y i. cc) (read_bytes n (alignment_of around.tags type) s.objects from cells e) in
     let w : written_whole n 1 s.objects to' from' cells ≡ Ok objects =
-        stands_ok (λ v. written_whole n 1 s.objects to' v cells) from from' objects g (λ c y i. no_from n s.objects (target_in to') y i)
-        (stands_ok (λ v. written_whole n 1 s.objects v from cells) to to' objects h (λ c y i. cc) (written_bytes n (alignment_of around.tags type) s.objects to from cells objects f)) in
-    (Done to' (record s { objects = objects }),
-    ap (λ q. or_wrong nowhere s q (λ cells. or_wrong nowhere s (written_whole n 1 s.objects to' from' cells) (λ objects. Moved n (Done to' (record s { objects = objects }))))) r
-    ∙ ap (λ q. or_wrong nowhere s q (λ objects. Moved n (Done to' (record s { objects = objects })))) w,
-    (to', refl, h))))
+    stands_ok (λ v. written_whole n 1 s.objects to' v cells) from from' objects g (λ c y i. no_from n s.objects (target_in to') y i)
+    (stands_ok (λ v. written_whole n 1 s.objects v from cells) to to' objects h (λ c y i. cc) (written_bytes n (alignment_of around.tags type) s.objects to from cells objects f)) in (
+      Done to' (record s { objects = objects }),
+      ap (λ q. or_wrong nowhere s q (λ cells. or_wrong nowhere s (written_whole n 1 s.objects to' from' cells) (λ objects. Moved n (Done to' (record s { objects = objects }))))) r
+          ∙ ap (λ q. or_wrong nowhere s q (λ objects. Moved n (Done to' (record s { objects = objects })))) w,
+      (to', refl, h),
+    )))
 
 pub structure_same : (env : Environment) (around : Surroundings) (place read : Place) (type : TypeTree) (p : Play Value) (k : State → Play Value) (a b : Tree) (s : State)
     → plays.Same Stands p (evaluate env a s) → ((t : State) → plays.Same Stands (k t) (evaluate env b t))

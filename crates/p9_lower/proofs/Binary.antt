@@ -162,8 +162,8 @@ module _ (env : Environment) (moves : SymbolsMove env) (place : Place) (tags : T
       let m : Moves false (size_of tags target) c' (Word n) x = elements_move u.objects false (size_of tags target) type c' (Word n) x (some_ok _ x (of_integer_type type _ _ e)) in
       let i : n ≡ m.count = cc in
       let g : moved_value (element_offset false 1 n) m.pointer ≡ x =
-          subst (λ j. moved_value (element_offset false j n) m.pointer ≡ x) (eqb-true (size_of tags target) 1 o)
-          (subst (λ j. moved_value (element_offset false (size_of tags target) j) m.pointer ≡ x) (sym i) m.gives) in
+      subst (λ j. moved_value (element_offset false j n) m.pointer ≡ x) (eqb-true (size_of tags target) 1 o)
+      (subst (λ j. moved_value (element_offset false (size_of tags target) j) m.pointer ≡ x) (sym i) m.gives) in
       operated bin.Add u (Word n) c' x (added_to_word u.objects c' m.pointer n m.points ∙ ap Ok (sym (one_element_moved n m.pointer) ∙ g)))))
   sum_of target type n false o t =
       same_bind Stands Stands (k t) (evaluate env b t) _ _ (hk t) (λ c c' u f.
@@ -171,7 +171,7 @@ module _ (env : Environment) (moves : SymbolsMove env) (place : Place) (tags : T
       let m : Moves false (size_of tags target) c' (Word n) x = elements_move u.objects false (size_of tags target) type c' (Word n) x (some_ok _ x (of_integer_type type _ _ e)) in
       let i : n ≡ m.count = cc in
       let g : moved_value (element_offset false (size_of tags target) n) m.pointer ≡ x =
-          subst (λ j. moved_value (element_offset false (size_of tags target) j) m.pointer ≡ x) (sym i) m.gives in
+      subst (λ j. moved_value (element_offset false (size_of tags target) j) m.pointer ≡ x) (sym i) m.gives in
       operated bin.Add u (Word (word_product n (size_of tags target))) c' x (added_to_word u.objects c' m.pointer (word_product n (size_of tags target)) m.points ∙ ap Ok g))))
 
   -- an integer before a pointer: its bytes are known before the pointer is

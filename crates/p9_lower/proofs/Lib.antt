@@ -8,4 +8,7 @@ pub mod Binary
 pub mod Access
 pub mod Assigning
 pub mod Updating
+pub mod Nulls
+pub mod Held
+pub mod Expressions
 pub mod Examples

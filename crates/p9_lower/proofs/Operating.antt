@@ -127,8 +127,8 @@ between_offsets objects size o a o' b true x h e =
       to = b;
       elements = n.0;
       bytes = usable_is objects (cells.Into o a ∷ (cells.Into o' b ∷ []))
-      (and_go (if o == o' then Ok (word_difference a b) else Err cause.Compare) (λ n. Ok (Word n))) (Word (word_difference a b)) g.alive g.within
-      (ap (λ c. and_go (if c then Ok (word_difference a b) else Err cause.Compare) (λ n. Ok (Word n))) h);
+          (and_go (if o == o' then Ok (word_difference a b) else Err cause.Compare) (λ n. Ok (Word n))) (Word (word_difference a b)) g.alive g.within
+          (ap (λ c. and_go (if c then Ok (word_difference a b) else Err cause.Compare) (λ n. Ok (Word n))) h);
       are_whole = n.1;
       gives = n.2;
     }
@@ -156,7 +156,7 @@ quotient_of_whole size d n false e = cc
 not_minus_one : (size : ℕ) → is_size size ≡ true → (size == minus_one) ≡ false
 not_minus_one size h =
     elim (eqb_tells size minus_one) [
-      inl p ↦ let f : is_size minus_one ≡ true = subst (λ k. is_size k ≡ true) p.1 h in cc
+      | inl p ↦ let f : is_size minus_one ≡ true = subst (λ k. is_size k ≡ true) p.1 h in cc
       | inr p ↦ p.0
     ]
 

@@ -222,7 +222,7 @@ module _ (env : Environment) (around : Surroundings) (place read : Place) (p : P
         amount = v;
         scales = refl;
         gives = integers_are op type right u.objects old v x c
-        (some_ok _ x (of_integer_type right _ _ (of_integer_type type _ _ (sym (integer_operation op around.tags u.objects type right old v n m) ∙ e))));
+            (some_ok _ x (of_integer_type right _ _ (of_integer_type type _ _ (sym (integer_operation op around.tags u.objects type right old v n m) ∙ e))));
       })
 
   pub updated_same : (op : CBinary) (type right : TypeTree) → update_is_sound op type right ≡ true

@@ -5,4 +5,5 @@ pub mod Statements
 pub mod Modules
 pub mod Keeping
 pub mod Premises
+pub mod Laws
 pub mod Examples

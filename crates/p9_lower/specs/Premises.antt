@@ -1,17 +1,27 @@
 -- What the law of trees asks of the nodes of a source, which typing leaves in each valid module.
-use Rattle.std.specs.Prelude.{◌≡◌, ℕ, ◌&&◌, ◌||◌, Bool, true, false, not, nat_lt, nat_le, List, Some}
+use Rattle.std.specs.Prelude.{◌≡◌, ℕ, ◌&&◌, ◌||◌, Bool, true, false, not, nat_lt, nat_le, List, [], ◌∷◌, slice_get, Some, None}
 use Rattle.p9_lang.specs.declared.tree.CBinary.{CBinary}
 use Rattle.p9_lang.specs.declared.tree.CBinary.TheVariants as operator
-use Rattle.p9_lang.specs.Types.{TypeTree, Pointer, Tags, Meant, Nothing, Outer, Static, Auto, EnumValue, TypeName}
+use Rattle.p9_lang.specs.declared.tree.Kind.{Kind}
+use Rattle.p9_lang.specs.declared.tree.Kind.TheVariants as kind
+use Rattle.p9_lang.specs.Trees.{node, none, more}
+use Rattle.p9_lang.specs.Types as types
+use Rattle.p9_lang.specs.Types.{TypeTree, TypeRow, Pointer, Tags, Meant, Nothing, Outer, Static, Auto, EnumValue, TypeName}
 use Rattle.p9_lang.specs.Layout.{size_of, size_limit}
 use Rattle.p9_lang.specs.Conversions.{is_pointer, is_function, Conversion, Same, Integer, Null, Inner, Ambiguous, No}
+use Rattle.p9_lang.specs.Constants.{type_at}
 use Rattle.p9_lang.specs.Symbols.{Symbol}
+use Rattle.p9_lang.specs.Modules.{Label, Typed, TypedRow}
+use Rattle.p9_cmean.specs.ConstantLaws.{ConstantsAreTyped}
+use Rattle.p9_cmean.specs.Declarations.{Automatic, declared_by, declared_in}
+use Rattle.p9_cmean.specs.Expressions.{operand_type, parameters_of}
 use Rattle.p9_tree.specs.Trees.{Tree}
 use Rattle.p9_tree.specs.Charges.{pure}
 use Rattle.p9_tree.specs.declared.tree.Width.{Width}
 use Rattle.p9_tree.specs.declared.tree.Width.TheVariants as width
-use Rattle.p9_lower.specs.Names.{outer_symbol, static_symbol}
-use Rattle.p9_lower.specs.Operators.{width_of}
+use Rattle.p9_lower.specs.Names.{Setting, outer_symbol, static_symbol}
+use Rattle.p9_lower.specs.Operators.{width_of, conversion_to}
+use Rattle.p9_lower.specs.Expressions.{value_tree}
 use Rattle.p9_lower.specs.Keeping.{is_function_at}
 
 -- OPERATORS
@@ -76,3 +86,89 @@ NameIsKnown symbols type (Static number) = is_function_at symbols (static_symbol
 NameIsKnown symbols type (Auto number) = Unit {0}
 NameIsKnown symbols type (EnumValue value) = Unit {0}
 NameIsKnown symbols type (TypeName other) = Unit {0}
+
+-- EXPRESSIONS
+
+abbrev pub ArgumentsAreSound : Setting → TypeRow → TypedRow → Type 0
+ArgumentsAreSound setting types.none arguments = Unit {0}
+ArgumentsAreSound setting (types.more parameter parameters) none = Unit {0}
+ArgumentsAreSound setting (types.more parameter parameters) (more first others) =
+    (conversion_is_sound (conversion_to setting.tags first parameter) parameter ≡ true) × ArgumentsAreSound setting parameters others
+
+abbrev pub NodeIsSound : Setting → Kind → Label → TypedRow → Type 0
+NodeIsSound setting (kind.Name x) label parts = NameIsKnown setting.symbols label.type label.means
+NodeIsSound setting (kind.Text texts) label parts = NameIsKnown setting.symbols label.type label.means
+NodeIsSound setting kind.Index label (more array (more index none)) =
+    operands_are_sound setting.tags operator.Add (operand_type array) (operand_type index) (value_tree setting index) ≡ true
+NodeIsSound setting (kind.Binary op) label (more left (more right none)) =
+    operands_are_sound setting.tags op (operand_type left) (operand_type right) (value_tree setting right) ≡ true
+NodeIsSound setting kind.Call label (more function arguments) = ArgumentsAreSound setting (parameters_of (operand_type function)) arguments
+NodeIsSound setting (kind.Assign None) label (more left (more right none)) =
+    conversion_is_sound (conversion_to setting.tags right (type_at left)) (type_at left) ≡ true
+NodeIsSound setting (kind.Assign (Some op)) label (more left (more right none)) = update_is_sound op (type_at left) (operand_type right) ≡ true
+NodeIsSound setting k label parts = Unit {0}
+
+abbrev mutual
+  pub NodesAreSound : Setting → Typed → Type 0
+  NodesAreSound setting (node k label parts) = NodeIsSound setting k label parts × RowIsSound setting parts
+
+  pub RowIsSound : Setting → TypedRow → Type 0
+  RowIsSound setting none = Unit {0}
+  RowIsSound setting (more first others) = NodesAreSound setting first × RowIsSound setting others
+
+pub record ExpressionIsSound (setting : Setting) (e : Typed) : Type 0 where
+  pub constants : ConstantsAreTyped setting.tags e
+  pub nodes : NodesAreSound setting e
+
+-- STATEMENTS, of a function whose automatics have these types
+
+abbrev pub AutomaticsAreKnown : List TypeTree → List Automatic → Type 0
+AutomaticsAreKnown types [] = Unit {0}
+AutomaticsAreKnown types (a ∷ others) = (slice_get types a.number ≡ Some a.name.type) × AutomaticsAreKnown types others
+
+pub record InitialIsSound (setting : Setting) (a : Automatic) (e : Typed) : Type 0 where
+  pub name : NameIsKnown setting.symbols a.name.type a.name.means
+  pub expression : ExpressionIsSound setting e
+  pub converts : conversion_is_sound (conversion_to setting.tags e a.name.type) a.name.type ≡ true
+
+abbrev pub InitialisersAreSound : Setting → List Automatic → Type 0
+InitialisersAreSound setting [] = Unit {0}
+InitialisersAreSound setting (a ∷ others) =
+    ((e : Typed) → a.initialiser ≡ Some e → InitialIsSound setting a e) × InitialisersAreSound setting others
+
+pub record ResultIsSound (setting : Setting) (e : Typed) : Type 0 where
+  pub expression : ExpressionIsSound setting e
+  pub converts : conversion_is_sound (conversion_to setting.tags e setting.result) setting.result ≡ true
+
+abbrev mutual
+  pub StatementIsSound : Setting → List TypeTree → Typed → Type 0
+  StatementIsSound setting types (node kind.Block label parts) = AutomaticsAreKnown types (declared_in parts) × StatementsAreSound setting types parts
+  StatementIsSound setting types (node (kind.Declaration spec inits) label parts) =
+      InitialisersAreSound setting (declared_by (node (kind.Declaration spec inits) label parts))
+  StatementIsSound setting types (node kind.Expression label (more e none)) = ExpressionIsSound setting e
+  StatementIsSound setting types (node kind.If label (more test (more first none))) =
+      ExpressionIsSound setting test × StatementIsSound setting types first
+  StatementIsSound setting types (node kind.If label (more test (more first (more second none)))) =
+      ExpressionIsSound setting test × StatementIsSound setting types first × StatementIsSound setting types second
+  StatementIsSound setting types (node kind.While label (more test (more body none))) =
+      ExpressionIsSound setting test × StatementIsSound setting types body
+  StatementIsSound setting types (node kind.Do label (more body (more test none))) =
+      ExpressionIsSound setting test × StatementIsSound setting types body
+  StatementIsSound setting types (node (kind.For true test step) label (more first others)) =
+      ExpressionIsSound setting first × LoopIsSound setting types test step others
+  StatementIsSound setting types (node (kind.For false test step) label others) = LoopIsSound setting types test step others
+  StatementIsSound setting types (node kind.Switch label (more e arms)) = ExpressionIsSound setting e × StatementsAreSound setting types arms
+  StatementIsSound setting types (node kind.Return label (more e none)) = ResultIsSound setting e
+  StatementIsSound setting types (node k label parts) = Unit {0}
+
+  pub StatementsAreSound : Setting → List TypeTree → TypedRow → Type 0
+  StatementsAreSound setting types none = Unit {0}
+  StatementsAreSound setting types (more first others) = StatementIsSound setting types first × StatementsAreSound setting types others
+
+  pub LoopIsSound : Setting → List TypeTree → (test step : Bool) → TypedRow → Type 0
+  LoopIsSound setting types true true (more test (more step (more body none))) =
+      ExpressionIsSound setting test × ExpressionIsSound setting step × StatementIsSound setting types body
+  LoopIsSound setting types true false (more test (more body none)) = ExpressionIsSound setting test × StatementIsSound setting types body
+  LoopIsSound setting types false true (more step (more body none)) = ExpressionIsSound setting step × StatementIsSound setting types body
+  LoopIsSound setting types false false (more body none) = StatementIsSound setting types body
+  LoopIsSound setting types test step others = Unit {0}

@@ -1,5 +1,19 @@
 // Laws of the definitions in `specs/`. Each function does nothing; its contract is the law.
+ghost use Rattle.p9_lower.specs.Laws.{PlacesMean, ValuesMean};
 ghost use Rattle.p9_lower.specs.Examples.{RunsOfLowered, TreesOfLowered};
+
+/// The tree of an expression means what the expression means: the same play, with equal values where the
+/// source has one, in all surroundings whose names stand for what the environment's do.
+#[tactic(auto, using(crate::proofs::Expressions::values_mean))]
+pub fn values_mean()
+    ensures { ValuesMean }
+{}
+
+/// So does the tree of an lvalue's address.
+#[tactic(auto, using(crate::proofs::Expressions::places_mean))]
+pub fn places_mean()
+    ensures { PlacesMean }
+{}
 
 /// What small programs come to by the typed trees that are made of them: the same as by their sources.
 #[tactic(auto, using(crate::proofs::Examples::runs_of_lowered))]

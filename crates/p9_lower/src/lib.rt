@@ -4,4 +4,4 @@
 
 mod laws;
 
-pub use laws::{runs_of_lowered, trees_of_lowered};
+pub use laws::{places_mean, runs_of_lowered, trees_of_lowered, values_mean};
