@@ -82,7 +82,7 @@ call_same around place type v w vs ws s h e =
 
 -- GROUPS of plays
 
-from_same : {A : Type 0} (R : A → A → Type 0) (p p' q : Play A) → p ≡ p' → plays.Same R p q → plays.Same R p' q
+pub from_same : {A : Type 0} (R : A → A → Type 0) (p p' q : Play A) → p ≡ p' → plays.Same R p q → plays.Same R p' q
 from_same R p p' q e h = subst (λ x. plays.Same R x q) e h
 
 both_assoc : (p : Play Value) (k : State → Play Value) (o : Value → Value → State → Play Value) (r : Value → State → Play Value)

@@ -10,5 +10,6 @@ pub mod Assigning
 pub mod Updating
 pub mod Nulls
 pub mod Held
+pub mod Statements
 pub mod Expressions
 pub mod Examples

@@ -40,6 +40,11 @@ case_arm Undefined others = Arm Nothing others
 case_arm (constants.Value word) others = Case word others
 case_arm Null others = Arm Nothing others
 
+-- the first part of a `for` without the others, which no valid module has
+abbrev pub first_stmt : Option Tree → Stmt
+first_stmt None = Nothing
+first_stmt (Some tree) = Effect tree
+
 -- STATEMENTS
 abbrev mutual
   pub stmt_tree : Setting → Typed → Stmt
@@ -80,7 +85,7 @@ abbrev mutual
   loop_tree setting first false true (more step (more body none)) =
       For first None (Some (value_tree setting step)) (stmt_tree setting body)
   loop_tree setting first false false (more body none) = For first None None (stmt_tree setting body)
-  loop_tree setting first test step others = Nothing
+  loop_tree setting first test step others = first_stmt first
 
   pub arm_trees : Setting → TypedRow → Arms
   arm_trees setting none = no_arms
