@@ -11,5 +11,8 @@ pub mod Updating
 pub mod Nulls
 pub mod Held
 pub mod Statements
+pub mod Agreeing
+pub mod Functions
+pub mod Charging
 pub mod Expressions
 pub mod Examples

@@ -46,7 +46,7 @@ normal_same : (s : State) → plays.Same AlikeFlow (Done Normal s) (Done Normal 
 normal_same s = (Normal, refl, refl)
 
 -- a flow with another that is alike: the same, or both return
-flow_by : (Q : Flow → Flow → Type 0) (f g : Flow) → AlikeFlow f g
+pub flow_by : (Q : Flow → Flow → Type 0) (f g : Flow) → AlikeFlow f g
     → ((f : Flow) → Q f f) → ((v w : Value) → Alike v w → Q (Returned (Some v)) (Returned (Some w))) → Q f g
 flow_by Q Normal g e h r = subst (Q Normal) e (h Normal)
 flow_by Q Broke g e h r = subst (Q Broke) e (h Broke)
