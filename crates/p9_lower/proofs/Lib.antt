@@ -14,5 +14,6 @@ pub mod Statements
 pub mod Agreeing
 pub mod Functions
 pub mod Charging
+pub mod Waiting
 pub mod Expressions
 pub mod Examples

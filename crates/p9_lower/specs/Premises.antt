@@ -172,3 +172,27 @@ abbrev mutual
   LoopIsSound setting types false true (more step (more body none)) = ExpressionIsSound setting step × StatementIsSound setting types body
   LoopIsSound setting types false false (more body none) = StatementIsSound setting types body
   LoopIsSound setting types test step others = Unit {0}
+
+-- WAITING: the frame has room for values that wait where no argument is converted to a substructure
+
+abbrev pub is_inner : Conversion → Bool
+is_inner (Inner offset) = true
+is_inner conversion = false
+
+abbrev pub ArgumentsWait : Setting → TypeRow → TypedRow → Type 0
+ArgumentsWait setting types.none arguments = Unit {0}
+ArgumentsWait setting (types.more parameter parameters) none = Unit {0}
+ArgumentsWait setting (types.more parameter parameters) (more first others) =
+    (is_inner (conversion_to setting.tags first parameter) ≡ false) × ArgumentsWait setting parameters others
+
+abbrev pub NodeWaits : Setting → Kind → TypedRow → Type 0
+NodeWaits setting kind.Call (more function arguments) = ArgumentsWait setting (parameters_of (operand_type function)) arguments
+NodeWaits setting k parts = Unit {0}
+
+abbrev mutual
+  pub NodesWait : Setting → Typed → Type 0
+  NodesWait setting (node k label parts) = NodeWaits setting k parts × RowWaits setting parts
+
+  pub RowWaits : Setting → TypedRow → Type 0
+  RowWaits setting none = Unit {0}
+  RowWaits setting (more first others) = NodesWait setting first × RowWaits setting others

@@ -1,5 +1,5 @@
 // Laws of the definitions in `specs/`. Each function does nothing; its contract is the law.
-ghost use Rattle.p9_lower.specs.Laws.{PlacesMean, ValuesMean};
+ghost use Rattle.p9_lower.specs.Laws.{PlacesMean, StatementsMean, ValuesMean};
 ghost use Rattle.p9_lower.specs.Examples.{RunsOfLowered, TreesOfLowered};
 
 /// The tree of an expression means what the expression means: the same play, with equal values where the
@@ -13,6 +13,12 @@ pub fn values_mean()
 #[tactic(auto, using(crate::proofs::Expressions::places_mean))]
 pub fn places_mean()
     ensures { PlacesMean }
+{}
+
+/// A typed statement means what the statement means, with each loop given as many turns.
+#[tactic(auto, using(crate::proofs::Statements::statements_mean))]
+pub fn statements_mean()
+    ensures { StatementsMean }
 {}
 
 /// What small programs come to by the typed trees that are made of them: the same as by their sources.

@@ -4,4 +4,4 @@
 
 mod laws;
 
-pub use laws::{places_mean, runs_of_lowered, trees_of_lowered, values_mean};
+pub use laws::{places_mean, runs_of_lowered, statements_mean, trees_of_lowered, values_mean};
