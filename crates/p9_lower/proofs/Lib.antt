@@ -15,5 +15,6 @@ pub mod Agreeing
 pub mod Functions
 pub mod Charging
 pub mod Waiting
+pub mod Small
 pub mod Expressions
 pub mod Examples
