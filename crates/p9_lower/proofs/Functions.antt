@@ -149,5 +149,5 @@ pub parameters_first : (m : Source) (symbol : ℕ) (item : Typed) (d : Definitio
     → (function_of (setting_of m) symbol item d).parameters ≤ length (function_of (setting_of m) symbol item d).sizes
 parameters_first m symbol item d =
     let e : length (map (size_of m.tags) (parameter_types d.name.type ++ types_within d.block)) ≡ length (parameter_types d.name.type ++ types_within d.block) =
-        length-map (parameter_types d.name.type ++ types_within d.block) (size_of m.tags) in
+    length-map (parameter_types d.name.type ++ types_within d.block) (size_of m.tags) in
     omega (arith, e, length-append (parameter_types d.name.type) (types_within d.block))

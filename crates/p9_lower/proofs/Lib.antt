@@ -16,5 +16,6 @@ pub mod Functions
 pub mod Charging
 pub mod Waiting
 pub mod Small
+pub mod Means
 pub mod Expressions
 pub mod Examples

@@ -88,7 +88,7 @@ initial_charge : (setting : Setting) (type : TypeTree) (means : Meant) (e : Type
     → charge (assigned_tree setting.tags e type (name_tree setting means) (value_tree setting e)) ≤ 64 * weighed_nodes e
 initial_charge setting type means e =
     let h : charge (assigned_tree setting.tags e type (name_tree setting means) (value_tree setting e)) ≤ 33 + (charge (name_tree setting means) + charge (value_tree setting e)) =
-        assigned_charge setting.tags e type (name_tree setting means) (value_tree setting e) in
+    assigned_charge setting.tags e type (name_tree setting means) (value_tree setting e) in
     let g : charge (name_tree setting means) ≤ 3 = name_charge setting means in
     let f : charge (value_tree setting e) + 40 ≤ 64 * weighed_nodes e = value_charge setting e in
     omega arith
@@ -97,7 +97,7 @@ initial_waits : (setting : Setting) (type : TypeTree) (means : Meant) (e : Typed
     → waiting (assigned_tree setting.tags e type (name_tree setting means) (value_tree setting e)) ≤ 1 + 1 * weighed_nodes e
 initial_waits setting type means e n =
     let h : waiting (assigned_tree setting.tags e type (name_tree setting means) (value_tree setting e)) ≤ 2 + (waiting (name_tree setting means) + waiting (value_tree setting e)) =
-        assigned_waits setting.tags e type (name_tree setting means) (value_tree setting e) in
+    assigned_waits setting.tags e type (name_tree setting means) (value_tree setting e) in
     let g : waiting (name_tree setting means) ≤ 0 = name_waits setting means in
     let f : waiting (value_tree setting e) + 1 ≤ weighed_nodes e = value_waits setting e n in
     omega arith
@@ -195,3 +195,352 @@ declared_waits setting (more part others) n =
     (waits_step b (total waiting (initial_trees setting (automatic (name_label part) (initialiser others)))) (total waiting (initial_trees setting (automatics_in others))) (kept 1 others)
     (room 1 (initialiser others)) (weighed_row others) (weighed_nodes part)
     (automatic_waits setting (name_label part) (initialiser others) (option_waits setting others n.1)) (room_is 1 others) (declared_waits setting others n.1) (nodes_are part))
+
+-- STATEMENTS: their code
+
+fits_one : (c w : ℕ) → c + 40 ≤ 64 * w → c ≤ 64 * (w + 0 + 1)
+fits_one c w h = omega arith
+
+fits_if : (c f w v : ℕ) → c + 40 ≤ 64 * w → f ≤ 64 * v → 6 + (c + f) ≤ 64 * (w + (v + 0) + 1)
+fits_if c f w v h g = omega arith
+
+fits_else : (c f e w v u : ℕ) → c + 40 ≤ 64 * w → f ≤ 64 * v → e ≤ 64 * u → 8 + (c + (f + e)) ≤ 64 * (w + (v + (u + 0)) + 1)
+fits_else c f e w v u h g i = omega arith
+
+fits_while : (c f w v : ℕ) → c + 40 ≤ 64 * w → f ≤ 64 * v → 8 + (c + f) ≤ 64 * (w + (v + 0) + 1)
+fits_while c f w v h g = omega arith
+
+fits_do : (c f w v : ℕ) → c + 40 ≤ 64 * w → f ≤ 64 * v → 8 + (c + f) ≤ 64 * (v + (w + 0) + 1)
+fits_do c f w v h g = omega arith
+
+fits_for : (l c w v : ℕ) → l ≤ 8 + (c + 64 * v) → c + 40 ≤ 64 * w → l ≤ 64 * (w + v + 1)
+fits_for l c w v h g = omega arith
+
+fits_loop : (l v : ℕ) → l ≤ 8 + (0 + 64 * v) → l ≤ 64 * (v + 1)
+fits_loop l v h = omega arith
+
+fits_switch : (c a w v : ℕ) → c + 40 ≤ 64 * w → a ≤ 64 * v → 4 + (c + a) ≤ 64 * (w + v + 1)
+fits_switch c a w v h g = omega arith
+
+fits_return : (c c' w : ℕ) → c' ≤ 13 + c → c + 40 ≤ 64 * w → 7 + c' ≤ 64 * (w + 0 + 1)
+fits_return c c' w h g = omega arith
+
+fits_row : (a b v w : ℕ) → a ≤ 64 * v → b ≤ 64 * w → a + b ≤ 64 * (v + w)
+fits_row a b v w h g = omega arith
+
+fits_block : (a w : ℕ) → a ≤ 64 * w → a ≤ 64 * (w + 1)
+fits_block a w h = omega arith
+
+fits_kept : (a k w : ℕ) → a + k ≤ 64 * w → a ≤ 64 * (w + 1)
+fits_kept a k w h = omega arith
+
+fits_arm : (k a v w : ℕ) → k ≤ 6 → a ≤ 64 * w → 1 ≤ v → k + a ≤ 64 * (v + w)
+fits_arm k a v w h g i = omega arith
+
+fits_nothing : (a v w : ℕ) → a ≤ 64 * w → 0 + a ≤ 64 * (v + w)
+fits_nothing a v w h = omega arith
+
+loop_three : (i c s b w v u : ℕ) → c + 40 ≤ 64 * w → s + 40 ≤ 64 * v → b ≤ 64 * u → 8 + (i + (c + (s + b))) ≤ 8 + (i + 64 * (w + (v + (u + 0))))
+loop_three i c s b w v u h g f = omega arith
+
+loop_test : (i c b w u : ℕ) → c + 40 ≤ 64 * w → b ≤ 64 * u → 8 + (i + (c + (0 + b))) ≤ 8 + (i + 64 * (w + (u + 0)))
+loop_test i c b w u h f = omega arith
+
+loop_step : (i s b w u : ℕ) → s + 40 ≤ 64 * w → b ≤ 64 * u → 8 + (i + (0 + (s + b))) ≤ 8 + (i + 64 * (w + (u + 0)))
+loop_step i s b w u h f = omega arith
+
+loop_none : (i b u : ℕ) → b ≤ 64 * u → 8 + (i + (0 + (0 + b))) ≤ 8 + (i + 64 * (u + 0))
+loop_none i b u f = omega arith
+
+loop_first : (i w : ℕ) → i ≤ 8 + (i + w)
+loop_first i w = omega arith
+
+first_charge : (first : Option Tree) (w : ℕ) → stmt_charge (first_stmt first) ≤ 8 + (charge_if first + w)
+first_charge None w = no_more (8 + (0 + w))
+first_charge (Some t) w = loop_first (charge t) w
+
+case_charge : (c : Constant) (others : Arms) (v w : ℕ) → arms_charge others ≤ 64 * w → 1 ≤ v → arms_charge (case_arm c others) ≤ 64 * (v + w)
+case_charge NotConstant others v w h g = fits_nothing (arms_charge others) v w h
+case_charge Undefined others v w h g = fits_nothing (arms_charge others) v w h
+case_charge (constants.Value n) others v w h g = fits_arm 6 (arms_charge others) v w (lit≤ tt) h g
+case_charge Null others v w h g = fits_nothing (arms_charge others) v w h
+
+module _ (setting : Setting) where
+  mutual
+    pub statement_charge : (n : Typed) → stmt_charge (stmt_tree setting n) ≤ 64 * weighed_nodes n
+    statement_charge (node kind.Block label parts) = fits_block (row_charge (stmt_trees setting parts)) (weighed_row parts) (statements_charge parts)
+    statement_charge (node (kind.Declaration spec inits) label parts) =
+        subst (λ k. k ≤ 64 * (weighed_row parts + 1)) (sym (effects_charge (initial_trees setting (automatics_in parts))))
+        (fits_kept (total charge (initial_trees setting (automatics_in parts))) (kept 64 parts) (weighed_row parts) (declared_charge setting parts))
+    statement_charge (node kind.Expression label none) = lit≤ tt
+    statement_charge (node kind.Expression label (more e none)) = fits_one (charge (value_tree setting e)) (weighed_nodes e) (value_charge setting e)
+    statement_charge (node kind.If label (more test (more first none))) =
+        fits_if (charge (value_tree setting test)) (stmt_charge (stmt_tree setting first)) (weighed_nodes test) (weighed_nodes first) (value_charge setting test) (statement_charge first)
+    statement_charge (node kind.If label (more test (more first (more second none)))) =
+        fits_else (charge (value_tree setting test)) (stmt_charge (stmt_tree setting first)) (stmt_charge (stmt_tree setting second)) (weighed_nodes test) (weighed_nodes first) (weighed_nodes second)
+        (value_charge setting test) (statement_charge first) (statement_charge second)
+    statement_charge (node kind.While label (more test (more body none))) =
+        fits_while (charge (value_tree setting test)) (stmt_charge (stmt_tree setting body)) (weighed_nodes test) (weighed_nodes body) (value_charge setting test) (statement_charge body)
+    statement_charge (node kind.Do label (more body (more test none))) =
+        fits_do (charge (value_tree setting test)) (stmt_charge (stmt_tree setting body)) (weighed_nodes test) (weighed_nodes body) (value_charge setting test) (statement_charge body)
+    statement_charge (node (kind.For true test step) label (more first others)) =
+        fits_for (stmt_charge (loop_tree setting (Some (value_tree setting first)) test step others)) (charge (value_tree setting first)) (weighed_nodes first) (weighed_row others)
+        (loop_charge (Some (value_tree setting first)) test step others) (value_charge setting first)
+    statement_charge (node (kind.For false test step) label others) =
+        fits_loop (stmt_charge (loop_tree setting None test step others)) (weighed_row others) (loop_charge None test step others)
+    statement_charge (node kind.Switch label (more e arms)) =
+        fits_switch (charge (value_tree setting e)) (arms_charge (arm_trees setting arms)) (weighed_nodes e) (weighed_row arms) (value_charge setting e) (switch_charge arms)
+    statement_charge (node kind.Case label (more constant none)) = no_more (64 * (weighed_nodes constant + 0 + 1))
+    statement_charge (node kind.Default label none) = lit≤ tt
+    statement_charge (node kind.Break label none) = lit≤ tt
+    statement_charge (node kind.Continue label none) = lit≤ tt
+    statement_charge (node kind.Return label none) = lit≤ tt
+    statement_charge (node kind.Return label (more e none)) =
+        fits_return (charge (value_tree setting e)) _ (weighed_nodes e) (passed_charge setting.tags e setting.result (value_tree setting e)) (value_charge setting e)
+    statement_charge (node k label parts) = no_more (64 * (weighed_row parts + weight_of k))
+
+    statements_charge : (row : TypedRow) → row_charge (stmt_trees setting row) ≤ 64 * weighed_row row
+    statements_charge none = lit≤ tt
+    statements_charge (more first others) =
+        fits_row (stmt_charge (stmt_tree setting first)) (row_charge (stmt_trees setting others)) (weighed_nodes first) (weighed_row others) (statement_charge first) (statements_charge others)
+
+    switch_charge : (row : TypedRow) → arms_charge (arm_trees setting row) ≤ 64 * weighed_row row
+    switch_charge none = lit≤ tt
+    switch_charge (more (node kind.Case label (more constant none)) others) =
+        case_charge (constant_of setting.tags constant) (arm_trees setting others) (weighed_nodes (node kind.Case label (more constant none))) (weighed_row others) (switch_charge others)
+        (nodes_are (node kind.Case label (more constant none)))
+    switch_charge (more (node kind.Default label none) others) =
+        fits_arm 2 (arms_charge (arm_trees setting others)) 1 (weighed_row others) (lit≤ tt) (switch_charge others) (lit≤ tt)
+    switch_charge (more (node k label parts) others) =
+        fits_row (stmt_charge (stmt_tree setting (node k label parts))) (arms_charge (arm_trees setting others)) (weighed_nodes (node k label parts)) (weighed_row others)
+        (statement_charge (node k label parts)) (switch_charge others)
+
+    loop_charge : (first : Option Tree) (test step : Bool) (row : TypedRow) → stmt_charge (loop_tree setting first test step row) ≤ 8 + (charge_if first + 64 * weighed_row row)
+    loop_charge first true true (more test (more step (more body none))) =
+        loop_three (charge_if first) (charge (value_tree setting test)) (charge (value_tree setting step)) (stmt_charge (stmt_tree setting body)) (weighed_nodes test) (weighed_nodes step) (weighed_nodes body)
+        (value_charge setting test) (value_charge setting step) (statement_charge body)
+    loop_charge first true false (more test (more body none)) =
+        loop_test (charge_if first) (charge (value_tree setting test)) (stmt_charge (stmt_tree setting body)) (weighed_nodes test) (weighed_nodes body) (value_charge setting test) (statement_charge body)
+    loop_charge first false true (more step (more body none)) =
+        loop_step (charge_if first) (charge (value_tree setting step)) (stmt_charge (stmt_tree setting body)) (weighed_nodes step) (weighed_nodes body) (value_charge setting step) (statement_charge body)
+    loop_charge first false false (more body none) =
+        loop_none (charge_if first) (stmt_charge (stmt_tree setting body)) (weighed_nodes body) (statement_charge body)
+    loop_charge first test step row = first_charge first (64 * weighed_row row)
+
+-- STATEMENTS: what waits
+
+waits_one : (c w : ℕ) → c + 1 ≤ w → c ≤ w + 0 + 1
+waits_one c w h = omega arith
+
+waits_two : (c f w v : ℕ) → c + 1 ≤ w → f ≤ v → c + f ≤ w + (v + 0) + 1
+waits_two c f w v h g = omega arith
+
+waits_do : (c f w v : ℕ) → c + 1 ≤ w → f ≤ v → c + f ≤ v + (w + 0) + 1
+waits_do c f w v h g = omega arith
+
+waits_else : (c f e w v u : ℕ) → c + 1 ≤ w → f ≤ v → e ≤ u → c + (f + e) ≤ w + (v + (u + 0)) + 1
+waits_else c f e w v u h g i = omega arith
+
+waits_for : (l c w v : ℕ) → l ≤ c + v → c + 1 ≤ w → l ≤ w + v + 1
+waits_for l c w v h g = omega arith
+
+waits_loop : (l v : ℕ) → l ≤ 0 + v → l ≤ v + 1
+waits_loop l v h = omega arith
+
+waits_switch : (c a w v : ℕ) → c + 1 ≤ w → a ≤ v → suc (c + a) ≤ w + v + 1
+waits_switch c a w v h g = omega arith
+
+waits_return : (c c' w : ℕ) → c' ≤ 1 + c → c + 1 ≤ w → c' ≤ w + 0 + 1
+waits_return c c' w h g = omega arith
+
+waits_row : (a b v w : ℕ) → a ≤ v → b ≤ w → a + b ≤ v + w
+waits_row a b v w h g = omega arith
+
+waits_block : (a w : ℕ) → a ≤ w → a ≤ w + 1
+waits_block a w h = omega arith
+
+waits_kept : (a k w : ℕ) → a + k ≤ w → a ≤ w + 1
+waits_kept a k w h = omega arith
+
+waits_past : (a v w : ℕ) → a ≤ w → a ≤ v + w
+waits_past a v w h = omega arith
+
+waits_none : (a v w : ℕ) → a ≤ w → 0 + a ≤ v + w
+waits_none a v w h = omega arith
+
+three_wait : (i c s b w v u : ℕ) → c + 1 ≤ w → s + 1 ≤ v → b ≤ u → i + (c + (s + b)) ≤ i + (w + (v + (u + 0)))
+three_wait i c s b w v u h g f = omega arith
+
+test_waits : (i c b w u : ℕ) → c + 1 ≤ w → b ≤ u → i + (c + (0 + b)) ≤ i + (w + (u + 0))
+test_waits i c b w u h f = omega arith
+
+step_waits : (i s b w u : ℕ) → s + 1 ≤ w → b ≤ u → i + (0 + (s + b)) ≤ i + (w + (u + 0))
+step_waits i s b w u h f = omega arith
+
+body_waits : (i b u : ℕ) → b ≤ u → i + (0 + (0 + b)) ≤ i + (u + 0)
+body_waits i b u f = omega arith
+
+first_alone : (i w : ℕ) → i ≤ i + w
+first_alone i w = omega arith
+
+first_waits : (first : Option Tree) (w : ℕ) → stmt_waiting (first_stmt first) ≤ waiting_if first + w
+first_waits None w = no_more (0 + w)
+first_waits (Some t) w = first_alone (waiting t) w
+
+case_waits : (c : Constant) (others : Arms) (v w : ℕ) → arms_waiting others ≤ w → arms_waiting (case_arm c others) ≤ v + w
+case_waits NotConstant others v w h = waits_none (arms_waiting others) v w h
+case_waits Undefined others v w h = waits_none (arms_waiting others) v w h
+case_waits (constants.Value n) others v w h = waits_past (arms_waiting others) v w h
+case_waits Null others v w h = waits_none (arms_waiting others) v w h
+
+module _ (setting : Setting) where
+  mutual
+    pub statement_waits : (n : Typed) → NodesWait setting n → stmt_waiting (stmt_tree setting n) ≤ weighed_nodes n
+    statement_waits (node kind.Block label parts) h = waits_block (row_waiting (stmt_trees setting parts)) (weighed_row parts) (statements_wait parts h.1)
+    statement_waits (node (kind.Declaration spec inits) label parts) h =
+        subst (λ k. k ≤ weighed_row parts + 1) (sym (effects_wait (initial_trees setting (automatics_in parts))))
+        (waits_kept (total waiting (initial_trees setting (automatics_in parts))) (kept 1 parts) (weighed_row parts) (declared_waits setting parts h.1))
+    statement_waits (node kind.Expression label none) h = lit≤ tt
+    statement_waits (node kind.Expression label (more e none)) h = waits_one (waiting (value_tree setting e)) (weighed_nodes e) (value_waits setting e h.1.0)
+    statement_waits (node kind.If label (more test (more first none))) h =
+        waits_two (waiting (value_tree setting test)) (stmt_waiting (stmt_tree setting first)) (weighed_nodes test) (weighed_nodes first) (value_waits setting test h.1.0) (statement_waits first h.1.1.0)
+    statement_waits (node kind.If label (more test (more first (more second none)))) h =
+        waits_else (waiting (value_tree setting test)) (stmt_waiting (stmt_tree setting first)) (stmt_waiting (stmt_tree setting second)) (weighed_nodes test) (weighed_nodes first) (weighed_nodes second)
+        (value_waits setting test h.1.0) (statement_waits first h.1.1.0) (statement_waits second h.1.1.1.0)
+    statement_waits (node kind.While label (more test (more body none))) h =
+        waits_two (waiting (value_tree setting test)) (stmt_waiting (stmt_tree setting body)) (weighed_nodes test) (weighed_nodes body) (value_waits setting test h.1.0) (statement_waits body h.1.1.0)
+    statement_waits (node kind.Do label (more body (more test none))) h =
+        waits_do (waiting (value_tree setting test)) (stmt_waiting (stmt_tree setting body)) (weighed_nodes test) (weighed_nodes body) (value_waits setting test h.1.1.0) (statement_waits body h.1.0)
+    statement_waits (node (kind.For true test step) label (more first others)) h =
+        waits_for (stmt_waiting (loop_tree setting (Some (value_tree setting first)) test step others)) (waiting (value_tree setting first)) (weighed_nodes first) (weighed_row others)
+        (loop_waits (Some (value_tree setting first)) test step others h.1.1) (value_waits setting first h.1.0)
+    statement_waits (node (kind.For false test step) label others) h =
+        waits_loop (stmt_waiting (loop_tree setting None test step others)) (weighed_row others) (loop_waits None test step others h.1)
+    statement_waits (node kind.Switch label (more e arms)) h =
+        waits_switch (waiting (value_tree setting e)) (arms_waiting (arm_trees setting arms)) (weighed_nodes e) (weighed_row arms) (value_waits setting e h.1.0) (switch_waits arms h.1.1)
+    statement_waits (node kind.Case label (more constant none)) h = no_more (weighed_nodes constant + 0 + 1)
+    statement_waits (node kind.Default label none) h = lit≤ tt
+    statement_waits (node kind.Break label none) h = lit≤ tt
+    statement_waits (node kind.Continue label none) h = lit≤ tt
+    statement_waits (node kind.Return label none) h = lit≤ tt
+    statement_waits (node kind.Return label (more e none)) h =
+        waits_return (waiting (value_tree setting e)) _ (weighed_nodes e) (passed_waits setting.tags e setting.result (value_tree setting e)) (value_waits setting e h.1.0)
+    statement_waits (node k label parts) h = no_more (weighed_row parts + weight_of k)
+
+    statements_wait : (row : TypedRow) → RowWaits setting row → row_waiting (stmt_trees setting row) ≤ weighed_row row
+    statements_wait none h = lit≤ tt
+    statements_wait (more first others) h =
+        waits_row (stmt_waiting (stmt_tree setting first)) (row_waiting (stmt_trees setting others)) (weighed_nodes first) (weighed_row others) (statement_waits first h.0) (statements_wait others h.1)
+
+    switch_waits : (row : TypedRow) → RowWaits setting row → arms_waiting (arm_trees setting row) ≤ weighed_row row
+    switch_waits none h = lit≤ tt
+    switch_waits (more (node kind.Case label (more constant none)) others) h =
+        case_waits (constant_of setting.tags constant) (arm_trees setting others) (weighed_nodes (node kind.Case label (more constant none))) (weighed_row others) (switch_waits others h.1)
+    switch_waits (more (node kind.Default label none) others) h = waits_past (arms_waiting (arm_trees setting others)) 1 (weighed_row others) (switch_waits others h.1)
+    switch_waits (more (node k label parts) others) h =
+        waits_row (stmt_waiting (stmt_tree setting (node k label parts))) (arms_waiting (arm_trees setting others)) (weighed_nodes (node k label parts)) (weighed_row others)
+        (statement_waits (node k label parts) h.0) (switch_waits others h.1)
+
+    loop_waits : (first : Option Tree) (test step : Bool) (row : TypedRow) → RowWaits setting row → stmt_waiting (loop_tree setting first test step row) ≤ waiting_if first + weighed_row row
+    loop_waits first true true (more test (more step (more body none))) h =
+        three_wait (waiting_if first) (waiting (value_tree setting test)) (waiting (value_tree setting step)) (stmt_waiting (stmt_tree setting body)) (weighed_nodes test) (weighed_nodes step) (weighed_nodes body)
+        (value_waits setting test h.0) (value_waits setting step h.1.0) (statement_waits body h.1.1.0)
+    loop_waits first true false (more test (more body none)) h =
+        test_waits (waiting_if first) (waiting (value_tree setting test)) (stmt_waiting (stmt_tree setting body)) (weighed_nodes test) (weighed_nodes body) (value_waits setting test h.0) (statement_waits body h.1.0)
+    loop_waits first false true (more step (more body none)) h =
+        step_waits (waiting_if first) (waiting (value_tree setting step)) (stmt_waiting (stmt_tree setting body)) (weighed_nodes step) (weighed_nodes body) (value_waits setting step h.0) (statement_waits body h.1.0)
+    loop_waits first false false (more body none) h =
+        body_waits (waiting_if first) (stmt_waiting (stmt_tree setting body)) (weighed_nodes body) (statement_waits body h.0)
+    loop_waits first test step row h = first_waits first (weighed_row row)
+
+-- NO GOTO
+
+both_true : (a b : Bool) → a ≡ true → b ≡ true → (a && b) ≡ true
+both_true true b h g = g
+both_true false b h g = cc
+
+effects_go : (ts : List Tree) → has_no_goto (effects ts) ≡ true
+effects_go [] = refl
+effects_go (t ∷ ts) = refl
+
+first_goes : (first : Option Tree) → has_no_goto (first_stmt first) ≡ true
+first_goes None = refl
+first_goes (Some t) = refl
+
+case_goes : (c : Constant) (others : Arms) → arms_have_no_goto others ≡ true → arms_have_no_goto (case_arm c others) ≡ true
+case_goes NotConstant others h = h
+case_goes Undefined others h = h
+case_goes (constants.Value n) others h = h
+case_goes Null others h = h
+
+module _ (setting : Setting) where
+  mutual
+    pub statement_goes : (n : Typed) → has_no_goto (stmt_tree setting n) ≡ true
+    statement_goes (node kind.Block label parts) = statements_go parts
+    statement_goes (node (kind.Declaration spec inits) label parts) = effects_go (initial_trees setting (automatics_in parts))
+    statement_goes (node kind.Expression label none) = refl
+    statement_goes (node kind.Expression label (more e none)) = refl
+    statement_goes (node kind.If label (more test (more first none))) = statement_goes first
+    statement_goes (node kind.If label (more test (more first (more second none)))) =
+        both_true (has_no_goto (stmt_tree setting first)) (has_no_goto (stmt_tree setting second)) (statement_goes first) (statement_goes second)
+    statement_goes (node kind.While label (more test (more body none))) = statement_goes body
+    statement_goes (node kind.Do label (more body (more test none))) = statement_goes body
+    statement_goes (node (kind.For true test step) label (more first others)) = loop_goes (Some (value_tree setting first)) test step others
+    statement_goes (node (kind.For false test step) label others) = loop_goes None test step others
+    statement_goes (node kind.Switch label (more e arms)) = switch_goes arms
+    statement_goes (node kind.Case label (more constant none)) = refl
+    statement_goes (node kind.Default label none) = refl
+    statement_goes (node kind.Break label none) = refl
+    statement_goes (node kind.Continue label none) = refl
+    statement_goes (node kind.Return label none) = refl
+    statement_goes (node kind.Return label (more e none)) = refl
+    statement_goes (node k label parts) = refl
+
+    statements_go : (row : TypedRow) → row_has_no_goto (stmt_trees setting row) ≡ true
+    statements_go none = refl
+    statements_go (more first others) =
+        both_true (has_no_goto (stmt_tree setting first)) (row_has_no_goto (stmt_trees setting others)) (statement_goes first) (statements_go others)
+
+    switch_goes : (row : TypedRow) → arms_have_no_goto (arm_trees setting row) ≡ true
+    switch_goes none = refl
+    switch_goes (more (node kind.Case label (more constant none)) others) = case_goes (constant_of setting.tags constant) (arm_trees setting others) (switch_goes others)
+    switch_goes (more (node kind.Default label none) others) = switch_goes others
+    switch_goes (more (node k label parts) others) =
+        both_true (has_no_goto (stmt_tree setting (node k label parts))) (arms_have_no_goto (arm_trees setting others)) (statement_goes (node k label parts)) (switch_goes others)
+
+    loop_goes : (first : Option Tree) (test step : Bool) (row : TypedRow) → has_no_goto (loop_tree setting first test step row) ≡ true
+    loop_goes first true true (more test (more step (more body none))) = statement_goes body
+    loop_goes first true false (more test (more body none)) = statement_goes body
+    loop_goes first false true (more step (more body none)) = statement_goes body
+    loop_goes first false false (more body none) = statement_goes body
+    loop_goes first test step row = first_goes first
+
+-- FUNCTIONS: an item has one node more than its block
+
+defined_block : (label : Label) (name : Option Label) (block : Typed) (d : Definition) → defined_by label name block ≡ Some d → block ≡ d.block
+defined_block label None block d e = cc
+defined_block label (Some name) block d e = let f : record { label = label; name = name; block = block } ≡ d = cc in ap (λ x. x.block) f
+
+within_row : (b v w : ℕ) → b ≤ w → b ≤ v + w
+within_row b v w h = omega arith
+
+first_of_two : (v w : ℕ) → v ≤ v + w
+first_of_two v w = omega arith
+
+part_by : (b : Bool) (label : Label) (part next : Typed) (others : TypedRow) (d : Definition)
+    → (if b then defined_by label (name_label part) next else definition_in label (more next others)) ≡ Some d
+    → (definition_in label (more next others) ≡ Some d → weighed_nodes d.block ≤ weighed_row (more next others))
+    → weighed_nodes d.block ≤ weighed_nodes part + (weighed_nodes next + weighed_row others)
+part_by true label part next others d e h =
+    subst (λ k. weighed_nodes k ≤ weighed_nodes part + (weighed_nodes next + weighed_row others)) (defined_block label (name_label part) next d e)
+    (within_row (weighed_nodes next) (weighed_nodes part) (weighed_nodes next + weighed_row others) (first_of_two (weighed_nodes next) (weighed_row others)))
+part_by false label part next others d e h = within_row (weighed_nodes d.block) (weighed_nodes part) (weighed_nodes next + weighed_row others) (h e)
+
+block_in : (label : Label) (row : TypedRow) (d : Definition) → definition_in label row ≡ Some d → weighed_nodes d.block ≤ weighed_row row
+block_in label none d e = cc
+block_in label (more block none) d e = cc
+block_in label (more part (more next others)) d e = part_by (is_declarator (kind_of_node part)) label part next others d e (λ f. block_in label (more next others) d f)
+
+pub block_of_item : (item : Typed) (d : Definition) → definition_of item ≡ Some d → weighed_nodes d.block + 1 ≤ weighed_nodes item
+block_of_item (node (kind.Function spec) label parts) d e = let h : weighed_nodes d.block ≤ weighed_row parts = block_in label parts d e in omega arith
+block_of_item (node k label parts) d e = cc

@@ -24,7 +24,6 @@ use Rattle.p9_tree.specs.Charges.{waiting, waiting_row}
 use Rattle.p9_lower.specs.Names.{Setting, name_tree, symbol_tree, outer_symbol, static_symbol}
 use Rattle.p9_lower.specs.Operators.{width_of, narrowed_tree, content_tree, read_tree, moved_tree, scaled_tree, forward_tree, divided_tree, inner_tree, pointers_tree, pointer_integer_tree, integer_pointer_tree, binary_tree, word_operator, conversion_to, stored_tree, converted_tree, passed_tree, cast_tree, assigned_tree, elements_tree, updated_tree}
 use Rattle.p9_lower.specs.Expressions.{named_tree, place_tree, value_tree, argument_trees}
-
 use Rattle.p9_lower.specs.Premises.{is_inner, ArgumentsWait, NodesWait, RowWaits}
 use Rattle.p9_lower.proofs.Charging.{weight_is}
 

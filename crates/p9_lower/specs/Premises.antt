@@ -1,5 +1,5 @@
 -- What the law of trees asks of the nodes of a source, which typing leaves in each valid module.
-use Rattle.std.specs.Prelude.{◌≡◌, ℕ, ◌&&◌, ◌||◌, Bool, true, false, not, nat_lt, nat_le, List, [], ◌∷◌, slice_get, Some, None}
+use Rattle.std.specs.Prelude.{◌≡◌, ℕ, ◌&&◌, ◌||◌, Bool, true, false, not, nat_lt, nat_le, List, [], ◌∷◌, ◌++◌, slice_get, Option, Some, None}
 use Rattle.p9_lang.specs.declared.tree.CBinary.{CBinary}
 use Rattle.p9_lang.specs.declared.tree.CBinary.TheVariants as operator
 use Rattle.p9_lang.specs.declared.tree.Kind.{Kind}
@@ -11,9 +11,10 @@ use Rattle.p9_lang.specs.Layout.{size_of, size_limit}
 use Rattle.p9_lang.specs.Conversions.{is_pointer, is_function, Conversion, Same, Integer, Null, Inner, Ambiguous, No}
 use Rattle.p9_lang.specs.Constants.{type_at}
 use Rattle.p9_lang.specs.Symbols.{Symbol}
-use Rattle.p9_lang.specs.Modules.{Label, Typed, TypedRow}
+use Rattle.p9_lang.specs.Modules.{Label, Typed, TypedRow, Source}
 use Rattle.p9_cmean.specs.ConstantLaws.{ConstantsAreTyped}
-use Rattle.p9_cmean.specs.Declarations.{Automatic, declared_by, declared_in}
+use Rattle.p9_cmean.specs.Declarations.{Automatic, declared_by, declared_in, Definition, definition_of}
+use Rattle.p9_cmean.specs.Union.{parameter_types, types_within}
 use Rattle.p9_cmean.specs.Expressions.{operand_type, parameters_of}
 use Rattle.p9_tree.specs.Trees.{Tree}
 use Rattle.p9_tree.specs.Charges.{pure}
@@ -22,6 +23,7 @@ use Rattle.p9_tree.specs.declared.tree.Width.TheVariants as width
 use Rattle.p9_lower.specs.Names.{Setting, outer_symbol, static_symbol}
 use Rattle.p9_lower.specs.Operators.{width_of, conversion_to}
 use Rattle.p9_lower.specs.Expressions.{value_tree}
+use Rattle.p9_lower.specs.Modules.{setting_of, result_of}
 use Rattle.p9_lower.specs.Keeping.{is_function_at}
 
 -- OPERATORS
@@ -196,3 +198,20 @@ abbrev mutual
   pub RowWaits : Setting → TypedRow → Type 0
   RowWaits setting none = Unit {0}
   RowWaits setting (more first others) = NodesWait setting first × RowWaits setting others
+
+-- MODULES: each item of a function has a block, whose statements are sound
+
+abbrev pub function_setting : Source → Definition → Setting
+function_setting m d = record (setting_of m) { result = result_of d.name.type }
+
+pub record FunctionIsSound (m : Source) (d : Definition) : Type 0 where
+  pub block : StatementIsSound (function_setting m d) (parameter_types d.name.type ++ types_within d.block) d.block
+  pub waits : NodesWait (function_setting m d) d.block
+
+abbrev pub ItemIsSound : Source → Option Definition → Type 0
+ItemIsSound m None = ⊥
+ItemIsSound m (Some d) = FunctionIsSound m d
+
+abbrev pub ItemsAreSound : Source → List Typed → Type 0
+ItemsAreSound m [] = Unit {0}
+ItemsAreSound m (item ∷ items) = ItemIsSound m (definition_of item) × ItemsAreSound m items

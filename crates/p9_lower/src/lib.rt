@@ -4,4 +4,7 @@
 
 mod laws;
 
-pub use laws::{places_mean, runs_of_lowered, statements_mean, trees_of_lowered, values_mean};
+pub use laws::{
+    functions_mean_same, parts_are_same, places_mean, runs_of_lowered, statements_mean,
+    trees_of_lowered, values_mean,
+};
