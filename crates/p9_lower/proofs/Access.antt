@@ -1,41 +1,38 @@
 -- Names, and what is read at addresses; members; tests; conversions.
-use Rattle.std.proofs.Common.{◌≡◌, ℕ, zero, suc, ◌==◌, Bool, true, false, not, if◌then◌else◌, List, [], ◌∷◌, Option, Some, None, option_map, slice_get, Result, Ok, Err, refl, sym, ap, ◌∙◌, subst}
-use Rattle.p9_base.specs.Words.{word_sum}
-use Rattle.p9_lang.specs.Types.{TypeTree, Void, Char, UChar, Short, UShort, Int, UInt, Long, ULong, Pointer, Array, Function, Tagged, Tags, Meant, Nothing, Outer, Static, Auto, EnumValue, TypeName}
+use Rattle.std.proofs.Common.{◌≡◌, ℕ, zero, suc, ◌==◌, Bool, true, false, not, if◌then◌else◌, List, Option, Some, None, Result, Ok, Err, refl, sym, ap, ◌∙◌, subst}
+use Rattle.p9_lang.specs.Types.{TypeTree, Void, Pointer, Tags, Meant, Nothing, Outer, Static, Auto, EnumValue, TypeName}
 use Rattle.p9_lang.specs.Layout.{size_of, alignment_of}
 use Rattle.p9_lang.specs.Conversions.{is_function, is_integer, Conversion, Same, Integer, Null, Inner, Ambiguous, No}
 use Rattle.p9_lang.specs.Constants.{narrowed}
 use Rattle.p9_lang.specs.Symbols.{Symbol}
-use Rattle.p9_lang.specs.Modules.{Label}
 use Rattle.p9_cmean.specs.declared.Cause.{Cause}
-use Rattle.p9_cmean.specs.declared.Cause.TheVariants as cause
 use Rattle.p9_cmean.specs.declared.Place.{Place}
 use Rattle.p9_cmean.specs.Cells.{Value, Word, Address, Missing, Object, State}
 use Rattle.p9_cmean.specs.Cells as cells
-use Rattle.p9_cmean.specs.Plays.{Play, Done, Wrong, NoMeaning, bind}
-use Rattle.p9_cmean.specs.Places.{used, or_wrong, done_at, or_no_meaning}
+use Rattle.p9_cmean.specs.Plays.{Play, Done, bind}
+use Rattle.p9_cmean.specs.Places.{used, done_at, or_no_meaning}
 use Rattle.p9_cmean.specs.Access.{and_go, pointer_in, integer_in, null, loaded, integer_from, pointer_from, moved_inside}
 use Rattle.p9_cmean.specs.Contents.{Content, content_of}
 use Rattle.p9_cmean.specs.Contents as contents
 use Rattle.p9_cmean.specs.Automatics.{living_object}
 use Rattle.p9_cmean.specs.Operators.{if_integer, holds, pointer_holds, of_integer}
-use Rattle.p9_cmean.specs.Expressions.{Surroundings, at, outer_pointer, pointer_to, address_of_name, read_content, read_at, narrow, by_conversion, convert_at, cast_to, member_offset, member_at, test_at, chosen}
+use Rattle.p9_cmean.specs.Expressions.{Surroundings, outer_pointer, pointer_to, read_content, read_at, narrow, convert_at, cast_to, test_at, chosen}
 use Rattle.p9_tree.specs.declared.tree.Width.{Width}
 use Rattle.p9_tree.specs.declared.tree.Width.TheVariants as width
 use Rattle.p9_tree.specs.declared.tree.UnOp.{UnOp}
 use Rattle.p9_tree.specs.declared.tree.BinOp.TheVariants as bin
 use Rattle.p9_tree.specs.Same.{Equal}
 use Rattle.p9_tree.specs.Same as plays
-use Rattle.p9_tree.specs.Trees.{Tree, Const, Addr, Load, Un, Bin, Conv}
-use Rattle.p9_tree.specs.Operations.{of_width, loaded_width, of_two, of_one, test_of}
+use Rattle.p9_tree.specs.Trees.{Tree, Const, Un}
+use Rattle.p9_tree.specs.Operations.{of_width, loaded_width, of_one, test_of}
 use Rattle.p9_tree.specs.Meaning.{Environment, evaluate, load, operate, test, pointer_or_none, nowhere}
 use Rattle.p9_tree.proofs.Same.{same_bind}
-use Rattle.p9_lower.specs.Names.{Setting, outer_symbol, static_symbol, symbol_tree, name_tree}
+use Rattle.p9_lower.specs.Names.{outer_symbol, static_symbol, symbol_tree, name_tree}
 use Rattle.p9_lower.specs.Operators.{width_of, narrowed_tree, content_tree, read_tree, moved_tree, inner_tree, converted_tree, cast_tree}
-use Rattle.p9_lower.specs.Premises.{is_word_width, conversion_is_sound, NameIsKnown}
+use Rattle.p9_lower.specs.Premises.{NameIsKnown}
 use Rattle.p9_lower.specs.Keeping.{Stands, Agree, is_function_at, setting_in}
-use Rattle.p9_lower.proofs.Plays.{stands_refl, bind_done, along, used_free, used_same, result_same, done_same, meant_same, given_same}
-use Rattle.p9_lower.proofs.Widths.{narrow_width, integer_loads, pointer_loads}
+use Rattle.p9_lower.proofs.Plays.{stands_refl, bind_done, along, used_free, used_same, done_same}
+use Rattle.p9_lower.proofs.Widths.{narrow_width, integer_loads, pointer_loads, is_word_width, no_integer_width}
 use Rattle.p9_lower.proofs.Moving.{inside_is_added}
 use Rattle.p9_lower.proofs.Trees.{operated, SymbolsMove, moved_is}
 use Rattle.p9_lower.proofs.Operating.{some_ok, of_integer_type}
@@ -221,18 +218,24 @@ whole_same env width.S16 p a s c h = cc
 whole_same env width.U16 p a s c h = cc
 whole_same env width.W32 p a s c h = then_same p (evaluate env a s) _ h (λ v w t g. used_free Stands v w t _ (Done w t) g (w, refl, stands_refl w))
 
+-- a value of the same type
+kept_same : (env : Environment) (place : Place) (to : TypeTree) (integer : Bool) (p : Play Value) (a : Tree) (s : State) → is_integer to ≡ integer → plays.Same Stands p (evaluate env a s)
+    → plays.Same Stands (bind p (λ v t. used v t (λ w. if integer then done_at place t (narrow to w) else Done w t))) (evaluate env (narrowed_tree (width_of to) a) s)
+kept_same env place to true p a s e h = narrow_same env place to p a s h
+kept_same env place to false p a s e h = whole_same env (width_of to) p a s (no_integer_width to e) h
+
 -- an expression that is converted where it isn't the null constant, which is null
 pub converted_same : (env : Environment) → SymbolsMove env → (place : Place) (conversion : Conversion) (to : TypeTree) (p : Play Value) (a : Tree) (s : State)
-    → conversion_is_sound conversion to ≡ true → (conversion ≡ Null → p ≡ Done null s) → plays.Same Stands p (evaluate env a s)
+    → (conversion ≡ Null → p ≡ Done null s) → plays.Same Stands p (evaluate env a s)
     → plays.Same Stands (bind p (λ v t. convert_at conversion place to v t)) (evaluate env (converted_tree conversion to a) s)
-converted_same env moves place Same to p a s c n h = whole_same env (width_of to) p a s c h
-converted_same env moves place Integer to p a s c n h = narrow_same env place to p a s h
-converted_same env moves place Null to p a s c n h =
+converted_same env moves place Same to p a s n h = kept_same env place to (is_integer to) p a s refl h
+converted_same env moves place Integer to p a s n h = narrow_same env place to p a s h
+converted_same env moves place Null to p a s n h =
     subst (λ q. plays.Same Stands (bind q (λ v t. convert_at Null place to v t)) (Done (Word 0) s)) (sym (n refl)) (Word 0, refl, refl)
-converted_same env moves place (Inner offset) to p a s c n h = moved_same env moves place offset p a s h
-converted_same env moves place Ambiguous to p a s c n h =
+converted_same env moves place (Inner offset) to p a s n h = moved_same env moves place offset p a s h
+converted_same env moves place Ambiguous to p a s n h =
     then_same p (evaluate env a s) _ h (λ v w t g. used_free Stands v w t _ (Done w t) g tt)
-converted_same env moves place No to p a s c n h =
+converted_same env moves place No to p a s n h =
     then_same p (evaluate env a s) _ h (λ v w t g. used_free Stands v w t _ (Done w t) g tt)
 
 -- CASTS

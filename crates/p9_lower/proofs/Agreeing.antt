@@ -1,5 +1,5 @@
 -- In every program that a module is part of, its names stand for the same in the source and in the trees.
-use Rattle.std.proofs.Common.{◌≡◌, ℕ, zero, suc, ◌+◌, ◌%◌, ◌^◌, ◌==◌, ◌&&◌, Bool, true, false, if◌then◌else◌, List, [], ◌∷◌, slice_get, option_map, Option, Some, None, refl, sym, ap, ◌∙◌, subst, add-suc, add-zero, arith}
+use Rattle.std.proofs.Common.{◌≡◌, ℕ, suc, ◌+◌, ◌==◌, Bool, true, false, if◌then◌else◌, List, [], ◌∷◌, slice_get, option_map, Option, Some, None, refl, sym, ap, ◌∙◌, subst, add-zero, arith}
 use Rattle.std.proofs.lemmas.Bool.{eqb-true}
 use Rattle.p9_base.specs.Words.{word_sum}
 use Rattle.p9_lang.specs.Names.{same_name}
@@ -7,14 +7,14 @@ use Rattle.p9_lang.specs.Types.{TypeTree, Function, Tags}
 use Rattle.p9_lang.specs.Conversions.{is_function}
 use Rattle.p9_lang.specs.Modules.{Source}
 use Rattle.p9_lang.specs.Symbols.{Symbol, SymbolKind, symbols}
-use Rattle.p9_cmean.specs.Cells.{FunctionName, Pointer, Into, ToFunction}
+use Rattle.p9_cmean.specs.Cells.{FunctionName, Pointer, ToFunction}
 use Rattle.p9_cmean.specs.Access.{with_offset}
 use Rattle.p9_cmean.specs.Union.{Union, union_of, number_from, object_number, static_number, function_named, has_number}
 use Rattle.p9_cmean.specs.FirstContents.{into}
 use Rattle.p9_cmean.specs.Expressions.{outer_pointer}
 use Rattle.p9_cmean.specs.CRun.{surroundings, start_of}
-use Rattle.p9_tree.specs.TRun.{object_pointer, symbol_pointer, symbols_at, environment}
-use Rattle.p9_lower.specs.Names.{has_no_number, is_outer_symbol, is_static_symbol, outer_symbol, static_symbol}
+use Rattle.p9_tree.specs.TRun.{symbol_pointer, symbols_at, environment}
+use Rattle.p9_lower.specs.Names.{has_no_number, is_outer_symbol, is_static_symbol}
 use Rattle.p9_lower.specs.Keeping.{is_function_at, Agree}
 use Rattle.p9_lower.proofs.Quiet.{left_true, right_true}
 

@@ -1,38 +1,37 @@
 -- Assignments: what is stored, and structures that are copied.
-use Rattle.std.proofs.Common.{◌≡◌, ℕ, zero, suc, ◌+◌, ◌%◌, ◌==◌, Bool, true, false, not, if◌then◌else◌, List, [], ◌∷◌, Option, Some, None, Result, Ok, Err, refl, sym, ap, ◌∙◌, subst, arith, nat_lt, length, take, drop}
-use Rattle.p9_lang.specs.Types.{TypeTree, Void, Char, UChar, Short, UShort, Int, UInt, Long, ULong, Pointer, Array, Function, Tagged, Tags}
+use Rattle.std.proofs.Common.{◌≡◌, ℕ, ◌+◌, ◌%◌, ◌==◌, Bool, true, false, not, if◌then◌else◌, List, Option, Some, None, Result, Ok, Err, refl, sym, ap, ◌∙◌, subst, arith, nat_lt, length, take, drop}
+use Rattle.p9_lang.specs.Types.{TypeTree, Pointer, Tags}
 use Rattle.p9_lang.specs.Layout.{size_of, alignment_of}
-use Rattle.p9_lang.specs.Conversions.{is_pointer, is_structure, Conversion, Same, Integer, Null, Inner, Ambiguous, No}
+use Rattle.p9_lang.specs.Conversions.{is_integer, is_pointer, Conversion, Same, Integer, Null, Inner, Ambiguous, No}
 use Rattle.p9_cmean.specs.declared.Cause.{Cause}
 use Rattle.p9_cmean.specs.declared.Cause.TheVariants as cause
 use Rattle.p9_cmean.specs.declared.Place.{Place}
 use Rattle.p9_cmean.specs.Cells.{Value, Word, Address, Missing, Cell, Object, State}
 use Rattle.p9_cmean.specs.Cells as cells
-use Rattle.p9_cmean.specs.Plays.{Play, Done, Wrong, NoMeaning, Moved, bind}
-use Rattle.p9_cmean.specs.Places.{used, or_wrong, done_at, or_no_meaning}
-use Rattle.p9_cmean.specs.Access.{and_go, null, pointer_in, object_at, target_in, accessed, cells_within, stored, read_whole, written_whole, with_cells, overlap, moved_inside}
+use Rattle.p9_cmean.specs.Plays.{Play, Done, Moved, bind}
+use Rattle.p9_cmean.specs.Places.{or_wrong, done_at}
+use Rattle.p9_cmean.specs.Access.{and_go, null, pointer_in, object_at, target_in, accessed, read_whole, written_whole, moved_inside}
 use Rattle.p9_cmean.specs.Contents.{Content, content_of}
 use Rattle.p9_cmean.specs.Contents as contents
-use Rattle.p9_cmean.specs.Expressions.{Surroundings, narrow, store_scalar, store_content, by_conversion, convert_at, assign_scalar, assign_structure}
+use Rattle.p9_cmean.specs.Expressions.{Surroundings, narrow, store_content, by_conversion, assign_scalar, assign_structure}
 use Rattle.p9_tree.specs.declared.tree.Width.{Width}
 use Rattle.p9_tree.specs.declared.tree.Width.TheVariants as width
 use Rattle.p9_tree.specs.declared.tree.BinOp.TheVariants as bin
 use Rattle.p9_tree.specs.Same as plays
-use Rattle.p9_tree.specs.Trees.{Tree, Const, Store, Copy, Bin}
-use Rattle.p9_tree.specs.Operations.{of_width, stored_width, of_two}
+use Rattle.p9_tree.specs.Trees.{Tree, Const, Store, Copy}
+use Rattle.p9_tree.specs.Operations.{of_width, stored_width}
 use Rattle.p9_tree.specs.Meaning.{Environment, evaluate, store, copy, operate, nowhere}
 use Rattle.p9_tree.proofs.Same.{same_bind}
 use Rattle.p9_lower.specs.Operators.{width_of, moved_tree, stored_tree}
-use Rattle.p9_lower.specs.Premises.{is_word_width, conversion_is_sound}
 use Rattle.p9_lower.specs.Keeping.{Stands}
-use Rattle.p9_lower.proofs.Plays.{stands_refl, bind_done, along, used_free, used_same, result_same, done_same, meant_same, given_same}
-use Rattle.p9_lower.proofs.Widths.{narrow_width, went, integer_stores, pointer_stores}
+use Rattle.p9_lower.proofs.Plays.{stands_refl, along, result_same}
+use Rattle.p9_lower.proofs.Widths.{is_word_width, no_integer_width, narrow_width, went, integer_stores, pointer_stores}
 use Rattle.p9_base.specs.Words.{word_sum}
 use Rattle.std.proofs.lemmas.Bool.{eq-eqb}
 use Rattle.p9_cmean.proofs.Plays.{bind_assoc}
 use Rattle.p9_lower.proofs.Moving.{moved_value, inside_moves, inside_is_added}
 use Rattle.p9_lower.proofs.Trees.{operated, SymbolsMove, moved_is}
-use Rattle.p9_lower.proofs.Access.{stands_ok, then_same}
+use Rattle.p9_lower.proofs.Access.{stands_ok}
 
 -- STORES
 
@@ -122,26 +121,32 @@ pub result_bind : (place : Place) (s : State) (r : Result Value Cause) (k : Valu
 result_bind place s (Ok x) k q h = h x refl
 result_bind place s (Err why) k q h = tt
 
+-- a value of the same type
+pub kept_stored : (tags : Tags) (place : Place) (type : TypeTree) (integer : Bool) (a a' v : Value) (s : State) → is_integer type ≡ integer → Stands a a' → IsThere v
+    → plays.Same Stands (bind (if integer then done_at place s (narrow type v) else Done v s) (λ x t. store_content (content_of type) tags type place a x t)) (store (width_of type) a' v s)
+kept_stored tags place type true a a' v s e h i = result_bind place s (narrow type v) _ _ (λ x g. store_same tags type place s a a' v x h (narrow_width type v x g))
+kept_stored tags place type false a a' v s e h i = store_same tags type place s a a' v v h (of_whole (width_of type) v (no_integer_width type e) i)
+
 module _ (env : Environment) (moves : SymbolsMove env) (around : Surroundings) (place : Place) (type : TypeTree) (p : Play Value) (k : State → Play Value) (a b : Tree) (s : State) (hp : plays.Same Stands p (evaluate env a s)) (hk : (t : State) → plays.Same Stands (k t) (evaluate env b t)) where
-  pub scalar_same : (conversion : Conversion) → conversion_is_sound conversion type ≡ true → (conversion ≡ Null → (t : State) → k t ≡ Done null t)
+  pub scalar_same : (conversion : Conversion) → (conversion ≡ Null → (t : State) → k t ≡ Done null t)
       → ((offset : ℕ) → conversion ≡ Inner offset → is_pointer type ≡ true)
       → plays.Same Stands (bind p (λ to t. bind (k t) (λ v u. assign_scalar around conversion place type to v u))) (evaluate env (Store (width_of type) a (stored_tree conversion b)) s)
-  scalar_same Same c n i =
+  scalar_same Same n i =
       same_bind Stands Stands p (evaluate env a s) _ _ hp (λ to to' t h.
       same_bind Stands Stands (k t) (evaluate env b t) _ _ (hk t) (λ v w u g.
       assigned_free around Same place type to v w u _ g (λ there.
-      store_same around.tags type place u to to' w w h (of_whole (width_of type) w c there))))
-  scalar_same Integer c n i =
+      kept_stored around.tags place type (is_integer type) to to' w u refl h there)))
+  scalar_same Integer n i =
       same_bind Stands Stands p (evaluate env a s) _ _ hp (λ to to' t h.
       same_bind Stands Stands (k t) (evaluate env b t) _ _ (hk t) (λ v w u g.
       assigned_free around Integer place type to v w u _ g (λ there.
       result_bind place u (narrow type w) _ _ (λ x e.
       store_same around.tags type place u to to' w x h (narrow_width type w x e)))))
-  scalar_same Null c n i =
+  scalar_same Null n i =
       same_bind Stands Stands p (evaluate env a s) _ _ hp (λ to to' t h.
       subst (λ r. plays.Same Stands (bind r (λ v u. assign_scalar around Null place type to v u)) (store (width_of type) to' (Word 0) t)) (sym (n refl t))
       (store_same around.tags type place t to to' (Word 0) (Word 0) h (of_zero (width_of type))))
-  scalar_same (Inner offset) c n i =
+  scalar_same (Inner offset) n i =
       along Stands (bind p (λ to t. bind (k t) (λ v u. assign_scalar around (Inner offset) place type to v u))) (evaluate env (Store (width_of type) a (moved_tree b (Const offset))) s)
       (bind (evaluate env a s) (λ to t. bind (evaluate env b t) (λ v u. bind (operate bin.Add v (Word offset) u) (λ x y. store (width_of type) to x y))))
       (λ j. bind (evaluate env a s) (λ to t.
@@ -153,11 +158,11 @@ module _ (env : Environment) (moves : SymbolsMove env) (around : Surroundings) (
       result_bind place u (moved_inside u.objects offset w) _ _ (λ x e.
       along Stands _ _ (store (width_of type) to' x u) (ap (λ r. bind r (λ y z. store (width_of type) to' y z)) (operated bin.Add u w (Word offset) x (inside_is_added u.objects offset w x e)))
       (store_same around.tags type place u to to' x x h (of_whole (width_of type) x (pointer_width type (i offset refl)) (inside_is_there u.objects offset w x e))))))))
-  scalar_same Ambiguous c n i =
+  scalar_same Ambiguous n i =
       same_bind Stands Stands p (evaluate env a s) _ _ hp (λ to to' t h.
       same_bind Stands Stands (k t) (evaluate env b t) _ _ (hk t) (λ v w u g.
       assigned_free around Ambiguous place type to v w u _ g (λ there. tt)))
-  scalar_same No c n i =
+  scalar_same No n i =
       same_bind Stands Stands p (evaluate env a s) _ _ hp (λ to to' t h.
       same_bind Stands Stands (k t) (evaluate env b t) _ _ (hk t) (λ v w u g.
       assigned_free around No place type to v w u _ g (λ there. tt)))

@@ -1,7 +1,7 @@
 -- Operators of two operands: the trees of their types do what the sources do.
-use Rattle.std.proofs.Common.{◌≡◌, ◌<◌, ◌≤◌, ℕ, zero, suc, ◌+◌, ◌-◌, ◌*◌, ◌%◌, ◌^◌, ◌==◌, ◌&&◌, ◌||◌, Bool, true, false, not, if◌then◌else◌, List, [], ◌∷◌, Option, Some, None, Result, Ok, Err, refl, sym, ap, ◌∙◌, subst, arith, nat_lt, nat_le, mod-lt, lit<}
+use Rattle.std.proofs.Common.{◌≡◌, ◌<◌, ℕ, ◌+◌, ◌-◌, ◌^◌, ◌==◌, ◌||◌, Bool, true, false, if◌then◌else◌, List, Option, Some, None, Result, Ok, refl, sym, ap, ◌∙◌, subst, nat_lt, nat_le, mod-lt, lit<}
 use Rattle.std.proofs.lemmas.Bool.{eqb-true}
-use Rattle.p9_base.specs.Words.{word_sum, word_difference, word_product}
+use Rattle.p9_base.specs.Words.{word_difference, word_product}
 use Rattle.p9_lang.specs.declared.tree.CBinary.{CBinary}
 use Rattle.p9_lang.specs.declared.tree.CBinary.TheVariants as operator
 use Rattle.p9_lang.specs.Types.{TypeTree, Pointer, Tags}
@@ -12,12 +12,10 @@ use Rattle.p9_cmean.specs.declared.Cause.{Cause}
 use Rattle.p9_cmean.specs.declared.Place.{Place}
 use Rattle.p9_cmean.specs.Cells.{Value, Word, Address, Missing, Object, State}
 use Rattle.p9_cmean.specs.Cells as cells
-use Rattle.p9_cmean.specs.Plays.{Play, Done, Wrong, NoMeaning, bind}
+use Rattle.p9_cmean.specs.Plays.{Play, Done, bind}
 use Rattle.p9_cmean.specs.Places.{used, done_at, or_no_meaning}
 use Rattle.p9_cmean.specs.Access.{pointer_in}
-use Rattle.p9_cmean.specs.Operators.{of_pointers, within_one, elements_between, compared, equality_of, inequality_of, moved_elements, whole_elements, element_offset, of_integers, two_pointers, pointer_and_integer, integer_and_pointer, if_integer, operation}
-use Rattle.p9_cmean.specs.Expressions.{Surroundings}
-use Rattle.p9_cmean.specs.Expressions as source
+use Rattle.p9_cmean.specs.Operators.{of_pointers, within_one, elements_between, moved_elements, whole_elements, element_offset, of_integers, two_pointers, pointer_and_integer, integer_and_pointer, if_integer, operation}
 use Rattle.p9_cmean.proofs.Plays.{bind_assoc}
 use Rattle.p9_tree.specs.declared.tree.BinOp.{BinOp}
 use Rattle.p9_tree.specs.declared.tree.BinOp.TheVariants as bin
@@ -30,11 +28,11 @@ use Rattle.p9_tree.proofs.Same.{same_bind}
 use Rattle.p9_lower.specs.Operators.{word_operator, moved_tree, scaled_tree, forward_tree, divided_tree, pointers_tree, pointer_integer_tree, integer_pointer_tree, binary_tree}
 use Rattle.p9_lower.specs.Premises.{is_size, works_on_words, operands_are_sound}
 use Rattle.p9_lower.specs.Keeping.{Stands}
-use Rattle.p9_lower.proofs.Plays.{stands_refl, along, used_free, used_same, given_same, operation_same, operands_same}
+use Rattle.p9_lower.proofs.Plays.{stands_refl, along, used_free, given_same, operands_same}
 use Rattle.p9_lower.proofs.Moving.{moved_value, Moves, elements_move, word_added, added_to_word, word_subtracted, one_element_moved}
 use Rattle.p9_lower.proofs.Operating.{some_ok, of_integer_type, compared_is, equality_is, inequality_is, Between, pointers_differ, whole_divided, whole_of_one, integers_are}
 use Rattle.p9_lower.proofs.Trees.{operated, SymbolsMove, moved_is, scaled_is, elements_in, forward_is, divided_in, divided_is, second_scaled}
-use Rattle.p9_lower.proofs.Quiet.{Quiet, pure_is_quiet, quiet_source, quiet_same}
+use Rattle.p9_lower.proofs.Quiet.{pure_is_quiet, quiet_source, quiet_same}
 
 -- OF TWO VALUES
 

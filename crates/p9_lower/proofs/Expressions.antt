@@ -1,8 +1,7 @@
 -- The trees of expressions mean what the expressions mean.
-use Rattle.std.proofs.Common.{◌≡◌, ℕ, zero, suc, Bool, true, false, not, if◌then◌else◌, List, [], ◌∷◌, Option, Some, None, Result, Ok, Err, refl, sym, ap, ◌∙◌, subst}
+use Rattle.std.proofs.Common.{◌≡◌, ℕ, zero, suc, Bool, true, false, not, if◌then◌else◌, List, [], ◌∷◌, Some, None, Result, Ok, Err, refl, sym, ap, ◌∙◌, subst}
 use Rattle.std.specs.List.{list_any}
 use Rattle.p9_base.specs.Words.{word_negation, word_complement}
-use Rattle.p9_lang.specs.declared.tree.CBinary.{CBinary}
 use Rattle.p9_lang.specs.declared.tree.CBinary.TheVariants as operator
 use Rattle.p9_lang.specs.declared.tree.CUnary.TheVariants as unary
 use Rattle.p9_lang.specs.declared.tree.Kind.TheVariants as kind
@@ -10,7 +9,7 @@ use Rattle.p9_lang.specs.Trees.{node, none, more}
 use Rattle.p9_lang.specs.Types.{TypeTree, TypeRow, Int, Meant, Nothing, Outer, Static, Auto, EnumValue, TypeName}
 use Rattle.p9_lang.specs.Types as types
 use Rattle.p9_lang.specs.Layout.{size_of}
-use Rattle.p9_lang.specs.Conversions.{is_structure, Conversion, Null, Inner}
+use Rattle.p9_lang.specs.Conversions.{is_structure}
 use Rattle.p9_lang.specs.Constants.{truth, type_at, constant_of, is_null_constant}
 use Rattle.p9_lang.specs.Modules.{Label, Typed, TypedRow}
 use Rattle.p9_lang.specs.Symbols.{Symbol}
@@ -19,13 +18,12 @@ use Rattle.p9_cmean.specs.declared.Cause.TheVariants as cause
 use Rattle.p9_cmean.specs.declared.Place.{Place}
 use Rattle.p9_cmean.specs.Cells.{FunctionName, Value, Word, Address, Missing, Object, State}
 use Rattle.p9_cmean.specs.Cells as cells
-use Rattle.p9_cmean.specs.Plays.{Call, Play, Done, Wrong, NoMeaning, Ask, bind}
-use Rattle.p9_cmean.specs.Places.{used, or_wrong, done_at, or_no_meaning}
-use Rattle.p9_cmean.specs.Access.{and_go, pointer_in, not_null, null, usable, is_dead, is_outside}
+use Rattle.p9_cmean.specs.Plays.{Play, Done, Ask, bind}
+use Rattle.p9_cmean.specs.Places.{used, or_wrong, done_at}
+use Rattle.p9_cmean.specs.Access.{and_go, pointer_in, is_dead, is_outside}
 use Rattle.p9_cmean.specs.Contents.{content_of}
-use Rattle.p9_cmean.specs.Operators.{operation}
 use Rattle.p9_cmean.specs.ConstantLaws.{ConstantsAreTyped, AllConstantsAreTyped}
-use Rattle.p9_cmean.specs.Expressions.{Surroundings, at, operand_type, lvalue_place, address_of_name, value_of_name, read_at, member_offset, member_at, operate, conversion_of, convert_at, assign, assign_scalar, assign_structure, step_operator, test_at, chosen, parameters_of, pointed, function_at, call_through, address, value, values}
+use Rattle.p9_cmean.specs.Expressions.{Surroundings, at, operand_type, lvalue_place, address_of_name, value_of_name, read_at, member_offset, member_at, operate, conversion_of, convert_at, assign, assign_scalar, assign_structure, test_at, parameters_of, pointed, function_at, gives_integer, answered_as, answered, call_through, address, value, values}
 use Rattle.p9_cmean.proofs.Plays.{bind_assoc}
 use Rattle.p9_tree.specs.declared.tree.UnOp.TheVariants as un
 use Rattle.p9_tree.specs.Same.{SameCall, Equal}
@@ -34,15 +32,15 @@ use Rattle.p9_tree.specs.Trees.{Tree, Trees}
 use Rattle.p9_tree.specs.Trees as trees
 use Rattle.p9_tree.specs.Operations.{of_one, called}
 use Rattle.p9_tree.specs.Operations as operations
-use Rattle.p9_tree.specs.Meaning.{Environment, evaluate, evaluate_all, test, call, step, nowhere}
+use Rattle.p9_tree.specs.Meaning.{Environment, evaluate, evaluate_all, test, call, nowhere}
 use Rattle.p9_tree.proofs.Same.{same_bind, same_if}
-use Rattle.p9_lower.specs.Names.{Setting, name_tree}
-use Rattle.p9_lower.specs.Operators.{width_of, stored_tree, read_tree, inner_tree, binary_tree, passed_tree, conversion_to, assigned_tree, step_amount}
+use Rattle.p9_lower.specs.Names.{name_tree}
+use Rattle.p9_lower.specs.Operators.{width_of, stored_tree, read_tree, inner_tree, binary_tree, passed_tree, conversion_to, assigned_tree}
 use Rattle.p9_lower.specs.Expressions.{named_tree, place_tree, value_tree, argument_trees}
-use Rattle.p9_lower.specs.Premises.{works_on_words, conversion_is_sound, NameIsKnown, ArgumentsAreSound, NodesAreSound, RowIsSound}
+use Rattle.p9_lower.specs.Premises.{NameIsKnown, NodesAreSound, RowIsSound}
 use Rattle.p9_lower.specs.Keeping.{Stands, Agree, setting_in}
 use Rattle.p9_lower.specs.Laws.{ValuesMean, PlacesMean}
-use Rattle.p9_lower.proofs.Plays.{stands_refl, stands_alike, along, used_free, used_same, result_same, done_same}
+use Rattle.p9_lower.proofs.Plays.{stands_refl, stands_alike, along, used_free, used_same, result_same}
 use Rattle.p9_lower.proofs.Binary.{binary_same}
 use Rattle.p9_lower.proofs.Access.{then_same, name_same, read_same, inner_same, test_same, converted_same, cast_same, chosen_same, word_same, plus_same}
 use Rattle.p9_lower.proofs.Assigning.{scalar_same, structure_same}
@@ -70,15 +68,22 @@ called_by around type objects (Address (cells.Into o n)) f e =
 called_by around type objects (Address (cells.ToFunction g)) f e = ap Ok (has_type_call (around.has_type g type) g f e)
 called_by around type objects (Missing c) f e = cc
 
+-- what a call answers
+answered_same : (integer : Bool) (place : Place) (x y : Value) (s : State) → plays.Alike x y → plays.Same Stands (answered_as integer place x s) (Done y s)
+answered_same true place (Word n) y s a = (y, refl, a)
+answered_same true place (Address p) y s a = tt
+answered_same true place (Missing c) y s a = (y, refl, tt)
+answered_same false place x y s a = (y, refl, stands_alike x y a)
+
 call_same : (around : Surroundings) (place : Place) (type : TypeTree) (v w : Value) (vs ws : List Value) (s : State) → Stands v w → vs ≡ ws
     → plays.Same Stands (call_through around place type v vs s) (call w ws s)
 call_same around place type v w vs ws s h e =
     used_same Stands v w s _ _ h (result_same Stands place s (and_go (pointer_in w) (function_at around type s.objects)) _ _ (λ f g.
-    along Stands (Ask (record { function = f; arguments = vs; place = place }) s (λ x t. Done x t))
+    along Stands (Ask (record { function = f; arguments = vs; place = place }) s (λ x t. answered place type x t))
     (or_wrong nowhere s (called w) (λ name. Ask (record { function = name; arguments = ws; place = nowhere }) s (λ x t. Done x t)))
     (Ask (record { function = f; arguments = ws; place = nowhere }) s (λ x t. Done x t))
     (ap (λ r. or_wrong nowhere s r (λ name. Ask (record { function = name; arguments = ws; place = nowhere }) s (λ x t. Done x t))) (called_by around type s.objects w f g))
-    (record { function = f; arguments = ws; place = nowhere }, λ x t. Done x t, refl, record { function = refl; arguments = sym e }, λ x y t a. (y, refl, stands_alike x y a))))
+    (record { function = f; arguments = ws; place = nowhere }, λ x t. Done x t, refl, record { function = refl; arguments = sym e }, λ x y t a. answered_same (gives_integer type) place x y t a)))
 
 -- GROUPS of plays
 
@@ -119,18 +124,16 @@ module _ (symbols : List Symbol) (around : Surroundings) (env : Environment) (ag
 
   -- an argument or a result, as a value of a type
   pub passed_same : (place : Place) (e : Typed) (to : TypeTree) (s : State) → ConstantsAreTyped around.tags e
-      → conversion_is_sound (conversion_to around.tags e to) to ≡ true
       → plays.Same Stands (value around e s) (evaluate env (value_tree (setting_in symbols around) e) s)
       → plays.Same Held (bind (value around e s) (λ v t. convert_at (conversion_of around e to) place to v t))
       (evaluate env (passed_tree around.tags e to (value_tree (setting_in symbols around) e)) s)
-  passed_same place e to s c n h =
+  passed_same place e to s c h =
       held_same (bind (value around e s) (λ v t. convert_at (conversion_of around e to) place to v t)) _ (converted_gives (conversion_of around e to) place to (value around e s))
-      (converted_same env agree.moved place (conversion_of around e to) to (value around e s) (value_tree (setting_in symbols around) e) s n
+      (converted_same env agree.moved place (conversion_of around e to) to (value around e s) (value_tree (setting_in symbols around) e) s
       (λ i. null_value around e (operand_type e) to s c i) h)
 
   -- an assignment of an expression
   assigned_by : (structure : Bool) (place : Place) (e : Typed) (type : TypeTree) (p : Play Value) (a : Tree) (s : State) → ConstantsAreTyped around.tags e
-      → conversion_is_sound (conversion_to around.tags e type) type ≡ true
       → plays.Same Stands p (evaluate env a s)
       → ((t : State) → plays.Same Stands (value around e t) (evaluate env (value_tree (setting_in symbols around) e) t))
       → plays.Same Stands
@@ -138,20 +141,19 @@ module _ (symbols : List Symbol) (around : Surroundings) (env : Environment) (ag
       if structure then assign_structure around place (lvalue_place around e) type to v u else assign_scalar around (conversion_of around e type) place type to v u)))
       (evaluate env (if structure then trees.Copy (size_of around.tags type) a (value_tree (setting_in symbols around) e)
       else trees.Store (width_of type) a (stored_tree (conversion_to around.tags e type) (value_tree (setting_in symbols around) e))) s)
-  assigned_by true place e type p a s c n hp hk =
+  assigned_by true place e type p a s c hp hk =
       structure_same env around place (lvalue_place around e) type p (value around e) a (value_tree (setting_in symbols around) e) s hp hk
-  assigned_by false place e type p a s c n hp hk =
-      scalar_same env agree.moved around place type p (value around e) a (value_tree (setting_in symbols around) e) s hp hk (conversion_to around.tags e type) n
+  assigned_by false place e type p a s c hp hk =
+      scalar_same env agree.moved around place type p (value around e) a (value_tree (setting_in symbols around) e) s hp hk (conversion_to around.tags e type)
       (λ i t. null_value around e (operand_type e) type t c i)
       (λ offset i. inner_is_pointer around.tags (operand_type e) type (is_null_constant (constant_of around.tags e)) offset i)
 
   pub assigned_same : (place : Place) (e : Typed) (type : TypeTree) (p : Play Value) (a : Tree) (s : State) → ConstantsAreTyped around.tags e
-      → conversion_is_sound (conversion_to around.tags e type) type ≡ true
       → plays.Same Stands p (evaluate env a s)
       → ((t : State) → plays.Same Stands (value around e t) (evaluate env (value_tree (setting_in symbols around) e) t))
       → plays.Same Stands (bind p (λ to t. bind (value around e t) (λ v u. assign around place e type to v u)))
       (evaluate env (assigned_tree around.tags e type a (value_tree (setting_in symbols around) e)) s)
-  assigned_same place e type p a s c n hp hk = assigned_by (is_structure type) place e type p a s c n hp hk
+  assigned_same place e type p a s c hp hk = assigned_by (is_structure type) place e type p a s c hp hk
 
   read_name : (number token : ℕ) (type : TypeTree) (means : Meant) (s : State) → NameIsKnown symbols type means
       → plays.Same Stands
@@ -275,7 +277,7 @@ module _ (symbols : List Symbol) (around : Surroundings) (env : Environment) (ag
         (chosen_same label.type (value around first u) (evaluate env (value_tree (setting_in symbols around) first) u) (value_same first u c.2.1.0 n.1.1.0))
         (chosen_same label.type (value around second u) (evaluate env (value_tree (setting_in symbols around) second) u) (value_same second u c.2.1.1.0 n.1.1.1.0))))
     value_same (node (kind.Assign None) label (more left (more right none))) s c n =
-        assigned_same (at around label) right (type_at left) (address around left s) (place_tree (setting_in symbols around) left) s c.2.1.0 n.0
+        assigned_same (at around label) right (type_at left) (address around left s) (place_tree (setting_in symbols around) left) s c.2.1.0
         (place_same left s c.2.0 n.1.0) (λ t. value_same right t c.2.1.0 n.1.1.0)
     value_same (node (kind.Assign (Some op)) label (more left (more right none))) s c n =
         updated_same env around (at around label) (lvalue_place around left) (address around left s) (value around right)
@@ -294,17 +296,17 @@ module _ (symbols : List Symbol) (around : Surroundings) (env : Environment) (ag
         same_bind Stands Stands (value around function s) (evaluate env (value_tree (setting_in symbols around) function) s) _ _ (value_same function s c.2.0 n.1.0) (λ f f' t g.
         same_bind Equal Stands (values around (at around label) (parameters_of (operand_type function)) arguments t)
         (evaluate_all env (argument_trees (setting_in symbols around) (parameters_of (operand_type function)) arguments) t) _ _
-        (values_same (at around label) (parameters_of (operand_type function)) arguments t c.2.1 n.0 n.1.1) (λ vs ws u e.
+        (values_same (at around label) (parameters_of (operand_type function)) arguments t c.2.1 n.1.1) (λ vs ws u e.
         call_same around (at around label) (pointed (operand_type function)) f f' vs ws u g e))
     value_same (node k label parts) s c n = tt
 
     values_same : (place : Place) (parameters : TypeRow) (arguments : TypedRow) (s : State)
-        → AllConstantsAreTyped around.tags arguments → ArgumentsAreSound (setting_in symbols around) parameters arguments → RowIsSound (setting_in symbols around) arguments
+        → AllConstantsAreTyped around.tags arguments → RowIsSound (setting_in symbols around) arguments
         → plays.Same Equal (values around place parameters arguments s) (evaluate_all env (argument_trees (setting_in symbols around) parameters arguments) s)
-    values_same place types.none none s c a n = ([], refl, refl)
-    values_same place types.none (more first others) s c a n = tt
-    values_same place (types.more parameter parameters) none s c a n = tt
-    values_same place (types.more parameter parameters) (more first others) s c a n =
+    values_same place types.none none s c n = ([], refl, refl)
+    values_same place types.none (more first others) s c n = tt
+    values_same place (types.more parameter parameters) none s c n = tt
+    values_same place (types.more parameter parameters) (more first others) s c n =
         from_same Equal
         (bind (bind (value around first s) (λ v t. convert_at (conversion_of around first parameter) place parameter v t)) (λ w u. bind (values around place parameters others u) (λ vs x. Done (w ∷ vs) x)))
         (values around place (types.more parameter parameters) (more first others) s)
@@ -312,11 +314,11 @@ module _ (symbols : List Symbol) (around : Surroundings) (env : Environment) (ag
         (bind_assoc (value around first s) (λ v t. convert_at (conversion_of around first parameter) place parameter v t) (λ w u. bind (values around place parameters others u) (λ vs x. Done (w ∷ vs) x)))
         (same_bind Held Equal (bind (value around first s) (λ v t. convert_at (conversion_of around first parameter) place parameter v t))
         (evaluate env (passed_tree around.tags first parameter (value_tree (setting_in symbols around) first)) s) _ _
-        (passed_same place first parameter s c.0 a.0 (value_same first s c.0 n.0)) (λ w w' u h.
+        (passed_same place first parameter s c.0 (value_same first s c.0 n.0)) (λ w w' u h.
         held_used Equal w w' u (bind (values around place parameters others u) (λ vs x. Done (w ∷ vs) x))
         (λ y. bind (evaluate_all env (argument_trees (setting_in symbols around) parameters others) u) (λ vs x. Done (y ∷ vs) x)) h
         (same_bind Equal Equal (values around place parameters others u) (evaluate_all env (argument_trees (setting_in symbols around) parameters others) u) _ _
-        (values_same place parameters others u c.1 a.1 n.1) (λ vs ws x e. (w ∷ ws, refl, ap (λ l. w ∷ l) e)))))
+        (values_same place parameters others u c.1 n.1) (λ vs ws x e. (w ∷ ws, refl, ap (λ l. w ∷ l) e)))))
 
 pub values_mean : ValuesMean
 values_mean symbols around env agree e h s = value_same symbols around env agree e s h.constants h.nodes

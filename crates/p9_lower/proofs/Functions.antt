@@ -1,19 +1,17 @@
 -- Typed functions mean what the functions mean.
-use Rattle.std.proofs.Common.{◌≡◌, ◌≤◌, ℕ, zero, suc, ◌+◌, ◌*◌, Bool, true, false, if◌then◌else◌, List, [], ◌∷◌, ◌++◌, map, take, length, slice_get, Option, Some, None, Result, Ok, Err, refl, sym, ap, ◌∙◌, subst, arith, sum, flat_map}
-use Rattle.std.proofs.lemmas.List.{map-append, length-append, length-map}
-use Rattle.p9_lang.specs.Trees.{node, none, more}
-use Rattle.p9_lang.specs.Types.{TypeTree, Void, Function, TypeRow, Tags, Meant, row_types}
+use Rattle.std.proofs.Common.{◌≡◌, ◌≤◌, ℕ, suc, ◌+◌, ◌*◌, List, [], ◌∷◌, ◌++◌, map, take, length, slice_get, Option, Some, None, refl, ap, ◌∙◌, arith, sum}
+use Rattle.std.proofs.lemmas.List.{length-append, length-map}
+use Rattle.p9_lang.specs.Types.{TypeTree, Function, TypeRow, Tags, Meant, row_types}
 use Rattle.p9_lang.specs.Layout.{size_of, rounded, on_some}
 use Rattle.p9_lang.specs.Modules.{Label, Typed, Source}
-use Rattle.p9_lang.specs.Symbols.{Symbol, SymbolKind, DeclaredOnly, Used, Code, Data, Common, symbols}
-use Rattle.p9_cmean.specs.declared.Cause.{Cause}
+use Rattle.p9_lang.specs.Symbols.{symbols}
 use Rattle.p9_cmean.specs.declared.Place.{Place}
 use Rattle.p9_cmean.specs.Cells.{Value, Word, Address, Missing, Object, State}
-use Rattle.p9_cmean.specs.Plays.{Call, Play, Done, NoMeaning, bind, Flow, Normal, Broke, Continued, Returned, Went}
+use Rattle.p9_cmean.specs.Plays.{Call, Play, bind, Flow, Normal, Broke, Continued, Returned, Went}
 use Rattle.p9_cmean.specs.Places.{or_no_meaning}
 use Rattle.p9_cmean.specs.Automatics.{Living, numbered, next_object, with_objects, left}
-use Rattle.p9_cmean.specs.Declarations.{Definition, definition_of}
-use Rattle.p9_cmean.specs.Union.{Union, FunctionEntry, union_of, parameter_types, types_within, object_bytes, need_of, base_need, weighed_nodes}
+use Rattle.p9_cmean.specs.Declarations.{Definition}
+use Rattle.p9_cmean.specs.Union.{union_of, parameter_types, types_within, need_of, base_need, weighed_nodes}
 use Rattle.p9_cmean.specs.Statements.{argument_object, argument_objects, parameters_from, given, with_parameters, living_in, run_block, statement}
 use Rattle.p9_cmean.specs.Statements as source
 use Rattle.p9_cmean.specs.CRun.{surroundings}
@@ -24,11 +22,10 @@ use Rattle.p9_tree.specs.Meaning as typed
 use Rattle.p9_tree.specs.TRun.{environment}
 use Rattle.p9_tree.specs.TRun as run
 use Rattle.p9_tree.proofs.Same.{same_bind}
-use Rattle.p9_lower.specs.Names.{Setting}
 use Rattle.p9_lower.specs.Statements.{stmt_tree}
-use Rattle.p9_lower.specs.Modules.{setting_of, result_of, automatic_sizes, function_of}
+use Rattle.p9_lower.specs.Modules.{setting_of, result_of, function_of}
 use Rattle.p9_lower.specs.Premises.{StatementIsSound}
-use Rattle.p9_lower.specs.Keeping.{Agree, setting_in}
+use Rattle.p9_lower.specs.Keeping.{Agree}
 use Rattle.p9_lower.proofs.Plays.{along}
 use Rattle.p9_lower.proofs.Statements.{flow_by, statement_same}
 use Rattle.p9_lower.proofs.Agreeing.{names_agree}

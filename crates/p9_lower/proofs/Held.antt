@@ -1,12 +1,12 @@
 -- Values that are there: what is converted is used.
-use Rattle.std.proofs.Common.{◌≡◌, ℕ, Bool, true, false, if◌then◌else◌, Option, Some, None, Result, Ok, Err, refl, sym, ap, subst}
+use Rattle.std.proofs.Common.{◌≡◌, Bool, true, false, if◌then◌else◌, Result, Ok, Err, refl, sym, subst}
 use Rattle.p9_lang.specs.Types.{TypeTree}
-use Rattle.p9_lang.specs.Conversions.{Conversion, Same, Integer, Null, Inner, Ambiguous, No}
+use Rattle.p9_lang.specs.Conversions.{is_integer, Conversion, Same, Integer, Null, Inner, Ambiguous, No}
 use Rattle.p9_cmean.specs.declared.Cause.{Cause}
 use Rattle.p9_cmean.specs.declared.Place.{Place}
 use Rattle.p9_cmean.specs.Cells.{Value, Word, Address, Missing, State}
 use Rattle.p9_cmean.specs.Plays.{Play, Done, Wrong, NoMeaning, Exit, Cut, Turn, Ask, Moved, bind}
-use Rattle.p9_cmean.specs.Places.{used, or_wrong, done_at}
+use Rattle.p9_cmean.specs.Places.{used, done_at}
 use Rattle.p9_cmean.specs.Access.{moved_inside}
 use Rattle.p9_cmean.specs.Expressions.{narrow, by_conversion, convert_at}
 use Rattle.p9_tree.specs.Same as plays
@@ -61,8 +61,12 @@ result_gives place s (Err why) h = tt
 narrow_is_there : (type : TypeTree) (v x : Value) → narrow type v ≡ Ok x → IsThere x
 narrow_is_there type v x e = let n = narrow_gives type v x e in subst IsThere (sym n.2) tt
 
+kept_gives : (place : Place) (to : TypeTree) (v : Value) (s : State) (integer : Bool) → IsThere v → Gives (if integer then done_at place s (narrow to v) else Done v s)
+kept_gives place to v s true i = result_gives place s (narrow to v) (narrow_is_there to v)
+kept_gives place to v s false i = i
+
 conversion_gives : (conversion : Conversion) (place : Place) (to : TypeTree) (v : Value) (s : State) → IsThere v → Gives (by_conversion conversion place to v s)
-conversion_gives Same place to v s i = i
+conversion_gives Same place to v s i = kept_gives place to v s (is_integer to) i
 conversion_gives Integer place to v s i = result_gives place s (narrow to v) (narrow_is_there to v)
 conversion_gives Null place to v s i = tt
 conversion_gives (Inner offset) place to v s i = result_gives place s (moved_inside s.objects offset v) (inside_is_there s.objects offset v)

@@ -1,20 +1,20 @@
 -- The typed module of a source: its parts, and its functions in every program.
-use Rattle.std.proofs.Common.{◌≡◌, ◌≤◌, ℕ, zero, suc, ◌+◌, ◌*◌, Bool, true, false, List, [], ◌∷◌, ◌++◌, map, slice_get, Option, Some, None, Result, Ok, Err, refl, sym, ap, ◌∙◌, subst, arith, flat_map}
+use Rattle.std.proofs.Common.{◌≡◌, ◌≤◌, ℕ, suc, ◌+◌, ◌*◌, Bool, List, [], ◌∷◌, ◌++◌, map, slice_get, Option, Some, None, Result, refl, sym, ap, ◌∙◌, arith, flat_map}
 use Rattle.std.proofs.lemmas.List.{map-append}
 use Rattle.p9_lang.specs.Types.{TypeTree}
 use Rattle.p9_lang.specs.Initialisers.{Write, BrokenItem}
 use Rattle.p9_lang.specs.Modules.{Typed, Source}
 use Rattle.p9_lang.specs.Symbols.{Symbol, SymbolKind, DeclaredOnly, Used, Code, Data, Common, symbols}
 use Rattle.p9_cmean.specs.Declarations.{Definition, definition_of}
-use Rattle.p9_cmean.specs.Union.{Entry, FunctionEntry, Union, union_of, entries_of, functions_in, function_entry, name_of, need_of, weighed_nodes}
+use Rattle.p9_cmean.specs.Union.{FunctionEntry, union_of, entries_of, functions_in, function_entry, weighed_nodes}
 use Rattle.p9_tree.specs.Charges.{stmt_charge, stmt_waiting}
 use Rattle.p9_tree.specs.Meaning as typed
-use Rattle.p9_tree.specs.Means.{IsSmall, FunctionMeans, FunctionsMean, code_of, first_of, code_items, numbers_with, entry_at}
+use Rattle.p9_tree.specs.Means.{IsSmall, FunctionsMean, code_of, first_of, code_items, numbers_with, entry_at}
 use Rattle.p9_lower.specs.Names.{Setting}
 use Rattle.p9_lower.specs.Statements.{stmt_tree}
-use Rattle.p9_lower.specs.Modules.{setting_of, function_of, function_or_empty, item_function, functions_from, initialiser_of, initialisers_from, lowered}
+use Rattle.p9_lower.specs.Modules.{setting_of, function_of, function_or_empty, item_function, functions_from, initialiser_of, initialisers_from}
 use Rattle.p9_lower.specs.Premises.{function_setting, FunctionIsSound, ItemIsSound, ItemsAreSound}
-use Rattle.p9_lower.specs.Laws.{FunctionsMeanSame, Parts, PartsAreSame}
+use Rattle.p9_lower.specs.Laws.{FunctionsMeanSame, PartsAreSame}
 use Rattle.p9_lower.proofs.Functions.{bodies_same, need_is, parameters_first}
 use Rattle.p9_lower.proofs.Small.{statement_charge, statement_waits, statement_goes, block_of_item}
 

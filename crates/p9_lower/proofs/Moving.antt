@@ -1,17 +1,17 @@
 -- Pointers that are moved by elements and bytes, and what is between them.
-use Rattle.std.proofs.Common.{◌≡◌, ◌<◌, ◌≤◌, ℕ, zero, suc, ◌+◌, ◌-◌, ◌*◌, ◌/◌, ◌%◌, ◌^◌, ◌==◌, ◌&&◌, ◌||◌, Bool, true, false, not, if◌then◌else◌, List, [], ◌∷◌, Option, Some, None, Result, Ok, Err, refl, sym, ap, ◌∙◌, subst, arith, nat_lt, nat_le, add_comm, mul-one}
+use Rattle.std.proofs.Common.{◌≡◌, ℕ, zero, suc, ◌+◌, ◌-◌, ◌*◌, ◌%◌, ◌^◌, ◌||◌, Bool, true, false, not, if◌then◌else◌, List, Option, Some, None, Result, Ok, Err, refl, sym, ap, ◌∙◌, add_comm, mul-one}
 use Rattle.std.proofs.Math.Nat.{add-mod-mod}
-use Rattle.p9_base.specs.Words.{word_sum, word_difference, word_product, is_negative, magnitude, signed_quotient, signed_remainder, word_negation}
+use Rattle.p9_base.specs.Words.{word_sum, word_difference, word_product, is_negative, magnitude, word_negation}
 use Rattle.p9_lang.specs.Types.{TypeTree}
-use Rattle.p9_lang.specs.Conversions.{is_integer, is_unsigned}
+use Rattle.p9_lang.specs.Conversions.{is_unsigned}
 use Rattle.p9_cmean.specs.declared.Cause.{Cause}
 use Rattle.p9_cmean.specs.declared.Cause.TheVariants as cause
 use Rattle.p9_cmean.specs.Cells.{Value, Word, Address, Missing, Object}
 use Rattle.p9_cmean.specs.Cells as cells
-use Rattle.p9_cmean.specs.Access.{and_go, pointer_in, integer_in, usable, moved, moved_inside, with_offset, stays_within, is_dead, is_outside}
+use Rattle.p9_cmean.specs.Access.{and_go, pointer_in, moved, moved_inside, with_offset, stays_within, is_dead, is_outside}
 use Rattle.p9_tree.specs.declared.tree.BinOp.TheVariants as bin
 use Rattle.p9_tree.specs.Operations.{of_two}
-use Rattle.p9_cmean.specs.Operators.{element_offset, moved_by, moved_elements, if_integer}
+use Rattle.p9_cmean.specs.Operators.{element_offset, moved_by, moved_elements}
 
 -- a pointer whose offset goes to another
 abbrev pub moved_value : (ℕ → ℕ) → Option cells.Pointer → Value

@@ -1,5 +1,5 @@
 -- The null constant is worth null.
-use Rattle.std.proofs.Common.{◌≡◌, ℕ, zero, suc, ◌==◌, ◌&&◌, ◌||◌, Bool, true, false, not, if◌then◌else◌, List, [], ◌∷◌, Option, Some, None, Result, Ok, Err, refl, sym, ap, ◌∙◌, subst, nat_le}
+use Rattle.std.proofs.Common.{◌≡◌, ℕ, ◌==◌, ◌&&◌, Bool, true, false, not, if◌then◌else◌, List, [], ◌∷◌, Option, Some, None, Result, Ok, Err, refl, sym, ap, ◌∙◌, subst, nat_le}
 use Rattle.std.proofs.lemmas.Bool.{eqb-true}
 use Rattle.p9_lang.specs.declared.tree.CBinary.{CBinary}
 use Rattle.p9_lang.specs.declared.tree.CBinary.TheVariants as operator
@@ -8,19 +8,18 @@ use Rattle.p9_lang.specs.declared.tree.CUnary.TheVariants as unary
 use Rattle.p9_lang.specs.declared.tree.Kind.{Kind}
 use Rattle.p9_lang.specs.declared.tree.Kind.TheVariants as kind
 use Rattle.p9_lang.specs.Trees.{node, none, more}
-use Rattle.p9_lang.specs.Types.{TypeTree, Void, Char, UChar, Short, UShort, Int, UInt, Long, ULong, Pointer, Array, Function, Tagged, Tags, Meant, EnumValue}
-use Rattle.p9_lang.specs.Types as types
+use Rattle.p9_lang.specs.Types.{TypeTree, Void, Pointer, Tagged, Tags, Meant, EnumValue}
 use Rattle.p9_lang.specs.Layout.{Extent, layout, size_limit}
 use Rattle.p9_lang.specs.Members.{Sought, Nowhere, One, Several, find_substructure}
 use Rattle.p9_lang.specs.Conversions.{is_integer, is_pointer, stays, structure_conversion, inner_conversion, conversion}
 use Rattle.p9_lang.specs.Conversions as conversions
-use Rattle.p9_lang.specs.Constants.{Constant, NotConstant, Undefined, Value, Null, Operand, WordFault, truth, word_operation, works_unsigned, narrowed, on_word, on_words, also, both_true, one_true, chosen, value_or_undefined, binary_constant, unary_constant, null_if, cast_constant, size_constant, size_constant_in, enumeration_constant, by_one, by_two, by_three, constant_at, is_null_constant, type_at, constant_of, constants_of}
-use Rattle.p9_lang.specs.Modules.{Label, Typed, TypedRow}
+use Rattle.p9_lang.specs.Constants.{Constant, NotConstant, Undefined, Value, Null, Operand, WordFault, truth, word_operation, works_unsigned, narrowed, on_word, on_words, also, chosen, value_or_undefined, binary_constant, unary_constant, null_if, cast_constant, size_constant, size_constant_in, enumeration_constant, by_one, by_two, by_three, constant_at, is_null_constant, constant_of, constants_of}
+use Rattle.p9_lang.specs.Modules.{Typed}
 use Rattle.p9_cmean.specs.Cells.{Word, State}
-use Rattle.p9_cmean.specs.Plays.{Play, Done, bind}
+use Rattle.p9_cmean.specs.Plays.{Done, bind}
 use Rattle.p9_cmean.specs.Contents.{content_of}
 use Rattle.p9_cmean.specs.Access.{null}
-use Rattle.p9_cmean.specs.ConstantLaws.{ConstantsAreTyped, AllConstantsAreTyped}
+use Rattle.p9_cmean.specs.ConstantLaws.{ConstantsAreTyped}
 use Rattle.p9_cmean.specs.Expressions.{Surroundings, at, cast_to, value}
 use Rattle.p9_cmean.proofs.Constants.{constants_keep_their_values}
 

@@ -1,21 +1,19 @@
 -- What the operators of a source give of two values, the operators of its trees give too.
-use Rattle.std.proofs.Common.{◌≡◌, ◌≢◌, ◌<◌, ◌≤◌, ℕ, zero, suc, ◌+◌, ◌-◌, ◌*◌, ◌/◌, ◌%◌, ◌^◌, ◌==◌, ◌&&◌, ◌||◌, Bool, true, false, not, if◌then◌else◌, List, [], ◌∷◌, Option, Some, None, Result, Ok, Err, refl, sym, ap, ◌∙◌, subst, arith, nat_lt, nat_le, ◌⊎◌, inl, inr}
+use Rattle.std.proofs.Common.{◌≡◌, ◌<◌, ℕ, zero, suc, ◌-◌, ◌/◌, ◌^◌, ◌==◌, ◌&&◌, Bool, true, false, if◌then◌else◌, List, [], ◌∷◌, Option, Some, None, Result, Ok, Err, refl, sym, ap, ◌∙◌, subst, arith, inl, inr}
 use Rattle.std.specs.List.{list_any}
-use Rattle.std.proofs.lemmas.Bool.{eqb-true}
-use Rattle.std.proofs.lemmas.Bool.Decides.{eqb_tells, nat_tests}
-use Rattle.p9_base.specs.Words.{word_sum, word_difference, word_product, word_negation, is_negative, magnitude, signs_differ, with_sign, signed_quotient, signed_remainder}
+use Rattle.std.proofs.lemmas.Bool.Decides.{eqb_tells}
+use Rattle.p9_base.specs.Words.{word_difference, word_negation, is_negative, with_sign, signed_quotient, signed_remainder}
 use Rattle.p9_lang.specs.declared.tree.CBinary.{CBinary}
 use Rattle.p9_lang.specs.declared.tree.CBinary.TheVariants as operator
-use Rattle.p9_lang.specs.Types.{TypeTree, Tags}
-use Rattle.p9_lang.specs.Layout.{size_of, size_limit}
-use Rattle.p9_lang.specs.Conversions.{is_integer, is_unsigned}
-use Rattle.p9_lang.specs.Constants.{Divide, word_operation, truth, least_word, minus_one, works_unsigned}
+use Rattle.p9_lang.specs.Types.{TypeTree}
+use Rattle.p9_lang.specs.Conversions.{is_integer}
+use Rattle.p9_lang.specs.Constants.{Divide, word_operation, least_word, minus_one, works_unsigned}
 use Rattle.p9_cmean.specs.declared.Cause.{Cause}
 use Rattle.p9_cmean.specs.declared.Cause.TheVariants as cause
 use Rattle.p9_cmean.specs.Cells.{Value, Word, Address, Missing, Object}
 use Rattle.p9_cmean.specs.Cells as cells
-use Rattle.p9_cmean.specs.Access.{and_go, pointer_in, integer_in, usable, is_dead, is_outside}
-use Rattle.p9_cmean.specs.Operators.{word_or_cause, of_integers, of_pointers, within_one, compared, equality_of, inequality_of, whole_elements, elements_between, two_pointers, pointer_and_integer, integer_and_pointer, if_integer, operation, moved_elements}
+use Rattle.p9_cmean.specs.Access.{and_go, usable, is_dead, is_outside}
+use Rattle.p9_cmean.specs.Operators.{word_or_cause, of_integers, of_pointers, within_one, compared, equality_of, inequality_of, whole_elements, elements_between, if_integer}
 use Rattle.p9_tree.specs.declared.tree.BinOp.{BinOp}
 use Rattle.p9_tree.specs.declared.tree.BinOp.TheVariants as bin
 use Rattle.p9_tree.specs.Operations.{of_words, of_two}

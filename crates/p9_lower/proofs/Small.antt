@@ -1,19 +1,17 @@
 -- The code and the frame of statements and functions: at most 64 words a node, and no more waiting values
 -- than nodes. No statement is a `goto`.
-use Rattle.std.proofs.Common.{◌≡◌, ◌≤◌, ℕ, zero, suc, ◌+◌, ◌*◌, ◌&&◌, Bool, true, false, if◌then◌else◌, List, [], ◌∷◌, ◌++◌, Option, Some, None, refl, sym, ap, ◌∙◌, subst, arith, lit≤}
-use Rattle.p9_lang.specs.declared.tree.Kind.{Kind}
+use Rattle.std.proofs.Common.{◌≡◌, ◌≤◌, ℕ, suc, ◌+◌, ◌*◌, ◌&&◌, Bool, true, false, if◌then◌else◌, List, [], ◌∷◌, ◌++◌, Option, Some, None, refl, sym, ap, ◌∙◌, subst, arith, lit≤}
 use Rattle.p9_lang.specs.declared.tree.Kind.TheVariants as kind
 use Rattle.p9_lang.specs.Trees.{node, none, more}
-use Rattle.p9_lang.specs.Types.{TypeTree, Tags, Meant, Nothing, Outer, Static, Auto, EnumValue, TypeName}
+use Rattle.p9_lang.specs.Types.{TypeTree, Meant, Auto}
 use Rattle.p9_lang.specs.Constants.{Constant, NotConstant, Undefined, Null, constant_of}
 use Rattle.p9_lang.specs.Constants as constants
 use Rattle.p9_lang.specs.Modules.{Label, Typed, TypedRow}
 use Rattle.p9_lang.specs.Parts.{is_declarator}
 use Rattle.p9_lang.specs.Symbols.{kind_of_node, name_label, initialiser}
-use Rattle.p9_cmean.specs.Declarations.{Automatic, automatic, automatics_in, declared_by, Definition, defined_by, definition_in, definition_of}
+use Rattle.p9_cmean.specs.Declarations.{Automatic, automatic, automatics_in, Definition, defined_by, definition_in, definition_of}
 use Rattle.p9_cmean.specs.Union.{weight_of, weighed_nodes, weighed_row}
-use Rattle.p9_tree.specs.Trees.{Tree, Seq, Stmt, Arms}
-use Rattle.p9_tree.specs.Trees as trees
+use Rattle.p9_tree.specs.Trees.{Tree, Arms}
 use Rattle.p9_tree.specs.Charges.{charge, charge_if, waiting, waiting_if, stmt_charge, row_charge, arms_charge, stmt_waiting, row_waiting, arms_waiting}
 use Rattle.p9_tree.specs.Means.{has_no_goto, row_has_no_goto, arms_have_no_goto}
 use Rattle.p9_lower.specs.Names.{Setting, name_tree}

@@ -1,41 +1,39 @@
 -- Typed statements mean what the statements mean.
-use Rattle.std.proofs.Common.{◌≡◌, ℕ, zero, suc, ◌==◌, Bool, true, false, not, if◌then◌else◌, List, [], ◌∷◌, ◌++◌, map, replicate, unwrap_or, slice_get, option_map, Option, Some, None, Result, Ok, Err, refl, sym, ap, ◌∙◌, subst}
+use Rattle.std.proofs.Common.{◌≡◌, ℕ, zero, suc, ◌==◌, Bool, true, false, if◌then◌else◌, List, [], ◌∷◌, ◌++◌, map, replicate, unwrap_or, slice_get, option_map, Option, Some, None, Ok, refl, sym, ap, ◌∙◌, subst}
 use Rattle.std.proofs.lemmas.Option.{slice_get-map}
 use Rattle.p9_lang.specs.declared.tree.Kind.TheVariants as kind
 use Rattle.p9_lang.specs.Trees.{node, none, more}
-use Rattle.p9_lang.specs.Types.{TypeTree, Tags, Meant}
+use Rattle.p9_lang.specs.Types.{TypeTree, Tags}
 use Rattle.p9_lang.specs.Layout.{size_of, on_some}
 use Rattle.p9_lang.specs.Constants.{Constant, NotConstant, Undefined, Null, constant_of}
 use Rattle.p9_lang.specs.Constants as constants
 use Rattle.p9_lang.specs.Modules.{Label, Typed, TypedRow}
 use Rattle.p9_lang.specs.Symbols.{Symbol}
-use Rattle.p9_cmean.specs.declared.Cause.{Cause}
 use Rattle.p9_cmean.specs.declared.Place.{Place}
-use Rattle.p9_cmean.specs.Cells.{Pointer, Value, Word, Address, Missing, Cell, Unset, Object, State}
-use Rattle.p9_cmean.specs.Plays.{Play, Done, NoMeaning, bind, Flow, Normal, Broke, Continued, Returned, Went, then_go, after_switch, Loop, turn_of, tested_loop, no_step}
+use Rattle.p9_cmean.specs.Cells.{Pointer, Value, Word, Address, Missing, Unset, State}
+use Rattle.p9_cmean.specs.Plays.{Play, Done, bind, Flow, Normal, Broke, Continued, Returned, Went, then_go, after_switch, no_step}
 use Rattle.p9_cmean.specs.Places.{used, or_wrong, or_no_meaning}
 use Rattle.p9_cmean.specs.Access.{integer_in}
-use Rattle.p9_cmean.specs.Automatics.{Declared, Living, live_object, unset_object, numbered, next_object, with_objects, left}
+use Rattle.p9_cmean.specs.Automatics.{Living, live_object, unset_object, numbered, next_object, with_objects, left}
 use Rattle.p9_cmean.specs.Declarations.{Automatic, declared_by, declared_in, declaration_of}
-use Rattle.p9_cmean.specs.Expressions.{Surroundings, at, operand_type, pointer_to, convert_at, conversion_of, assign, test_at, value}
+use Rattle.p9_cmean.specs.Expressions.{Surroundings, at, operand_type, pointer_to, convert_at, conversion_of, assign, value}
 use Rattle.p9_cmean.specs.Statements.{effect, condition, initialised, all_initialised, returned, loop_of, always, is_value, is_case_of, is_default, parts_before, or_else, entry_of, run_from, statement, statements, statements_from, for_loop}
 use Rattle.p9_cmean.specs.Statements as source
 use Rattle.p9_cmean.proofs.Plays.{bind_assoc}
 use Rattle.p9_tree.specs.Same.{Alike, AlikeFlow, Equal, SameLoop}
 use Rattle.p9_tree.specs.Same as plays
-use Rattle.p9_tree.specs.Trees.{Tree, Trees, Seq, Stmt, Effect, Stmts, Arms, no_arms, Case, Default, Arm}
-use Rattle.p9_tree.specs.Trees as trees
+use Rattle.p9_tree.specs.Trees.{Tree, Arms}
 use Rattle.p9_tree.specs.Meaning.{Environment, evaluate, test, execute, execute_all, execute_from, arms_before_case, arms_before_default, nowhere}
 use Rattle.p9_tree.specs.Meaning as typed
 use Rattle.p9_tree.proofs.Same.{same_bind, same_if, alike_refl, alike_flow_refl, loops_keep_same, tested_loops_keep_same}
-use Rattle.p9_lower.specs.Names.{Setting, name_tree}
-use Rattle.p9_lower.specs.Operators.{passed_tree, assigned_tree, conversion_to}
+use Rattle.p9_lower.specs.Names.{name_tree}
+use Rattle.p9_lower.specs.Operators.{passed_tree, assigned_tree}
 use Rattle.p9_lower.specs.Expressions.{value_tree}
-use Rattle.p9_lower.specs.Statements.{initial_tree, with_initial, initial_trees, sequence, effects, case_arm, first_stmt, stmt_tree, stmt_trees, loop_tree, arm_trees}
-use Rattle.p9_lower.specs.Premises.{NameIsKnown, conversion_is_sound, ExpressionIsSound, AutomaticsAreKnown, InitialIsSound, InitialisersAreSound, ResultIsSound, StatementIsSound, StatementsAreSound, LoopIsSound}
+use Rattle.p9_lower.specs.Statements.{initial_trees, sequence, effects, case_arm, first_stmt, stmt_tree, stmt_trees, loop_tree, arm_trees}
+use Rattle.p9_lower.specs.Premises.{ExpressionIsSound, AutomaticsAreKnown, InitialIsSound, InitialisersAreSound, StatementIsSound, StatementsAreSound, LoopIsSound}
 use Rattle.p9_lower.specs.Keeping.{Stands, Agree, setting_in}
 use Rattle.p9_lower.specs.Laws.{StatementsMean}
-use Rattle.p9_lower.proofs.Plays.{along, used_free, used_same, result_same}
+use Rattle.p9_lower.proofs.Plays.{along, used_free, result_same}
 use Rattle.p9_lower.proofs.Access.{name_same, test_same}
 use Rattle.p9_lower.proofs.Held.{Held, held_used}
 use Rattle.p9_lower.proofs.Expressions.{from_same, passed_same, assigned_same, value_same}
@@ -220,7 +218,7 @@ module _ (symbols : List Symbol) (around : Surroundings) (env : Environment) (ag
       (bind (or_no_meaning (at around name) s (pointer_to around name.type name.means) (λ p. Done (Address p) s)) (λ to t. bind (value around e t) (λ v u. assign around (at around name) e name.type to v u)))
       (evaluate env (assigned_tree around.tags e name.type (name_tree (setting_in symbols around) name.means) (value_tree (setting_in symbols around) e)) s) _ _
       (assigned_same symbols around env agree (at around name) e name.type (or_no_meaning (at around name) s (pointer_to around name.type name.means) (λ p. Done (Address p) s))
-      (name_tree (setting_in symbols around) name.means) s sound.expression.constants sound.converts
+      (name_tree (setting_in symbols around) name.means) s sound.expression.constants
       (name_same symbols around env agree (at around name) s name.type name.means sound.name)
       (λ t. value_same symbols around env agree e t sound.expression.constants sound.expression.nodes))
       (λ v w u i. g u))
@@ -242,7 +240,7 @@ module _ (symbols : List Symbol) (around : Surroundings) (env : Environment) (ag
       same_bind Stands Equal (value around e s) (evaluate env (value_tree (setting_in symbols around) e) s) _ _ (value_same symbols around env agree e s h.constants h.nodes)
       (λ v w t g. (tt, refl, refl))
 
-  returned_same : (place : Place) (e : Typed) (s : State) → ResultIsSound (setting_in symbols around) e
+  returned_same : (place : Place) (e : Typed) (s : State) → ExpressionIsSound (setting_in symbols around) e
       → plays.Same AlikeFlow (returned around place e s) (typed.returned env (Some (passed_tree around.tags e around.result (value_tree (setting_in symbols around) e))) s)
   returned_same place e s h =
       from_same AlikeFlow
@@ -252,8 +250,8 @@ module _ (symbols : List Symbol) (around : Surroundings) (env : Environment) (ag
       (bind_assoc (value around e s) (λ v t. convert_at (conversion_of around e around.result) place around.result v t) (λ w u. Done (Returned (Some w)) u))
       (same_bind Held AlikeFlow (bind (value around e s) (λ v t. convert_at (conversion_of around e around.result) place around.result v t))
       (evaluate env (passed_tree around.tags e around.result (value_tree (setting_in symbols around) e)) s) _ _
-      (passed_same symbols around env agree place e around.result s h.expression.constants h.converts
-      (value_same symbols around env agree e s h.expression.constants h.expression.nodes)) (λ v w u g.
+      (passed_same symbols around env agree place e around.result s h.constants
+      (value_same symbols around env agree e s h.constants h.nodes)) (λ v w u g.
       held_used AlikeFlow v w u (Done (Returned (Some v)) u) (λ x. Done (Returned (Some x)) u) g (Returned (Some v), refl, alike_refl v)))
 
 first_is : (turns : ℕ) (env : Environment) (first : Option Tree) (s : State) → execute turns env (first_stmt first) s ≡ bind (typed.effect_if env first s) (λ done t. Done Normal t)

@@ -1,8 +1,6 @@
 -- What the trees of operators do, as plays of their operands' values.
-use Rattle.std.proofs.Common.{◌≡◌, ℕ, ◌==◌, Bool, true, false, if◌then◌else◌, Option, Some, None, option_map, Result, Ok, Err, refl, sym, ap, ◌∙◌, subst}
-use Rattle.p9_base.specs.Words.{word_sum, word_product}
-use Rattle.p9_cmean.specs.declared.Cause.{Cause}
-use Rattle.p9_cmean.specs.declared.Cause.TheVariants as cause
+use Rattle.std.proofs.Common.{◌≡◌, ℕ, ◌==◌, Bool, true, false, if◌then◌else◌, Option, Some, None, option_map, Ok, refl, sym, ap, ◌∙◌}
+use Rattle.p9_base.specs.Words.{word_sum}
 use Rattle.p9_cmean.specs.Cells.{Pointer, Value, Word, Address, Missing, State}
 use Rattle.p9_cmean.specs.Plays.{Play, Done, bind}
 use Rattle.p9_cmean.specs.Access.{with_offset}
@@ -10,7 +8,7 @@ use Rattle.p9_cmean.proofs.Plays.{bind_assoc}
 use Rattle.p9_tree.specs.declared.tree.BinOp.{BinOp}
 use Rattle.p9_tree.specs.declared.tree.BinOp.TheVariants as bin
 use Rattle.p9_tree.specs.Operations.{of_two}
-use Rattle.p9_tree.specs.Trees.{Tree, Const, Addr, Auto, Load, Store, Update, Copy, Un, Bin, Conv, Choose, Both, Step, Seq, Call}
+use Rattle.p9_tree.specs.Trees.{Tree, Const, Addr, Bin}
 use Rattle.p9_tree.specs.Meaning.{Environment, evaluate, operate, pointer_or_none}
 use Rattle.p9_lower.specs.Operators.{moved_tree, scaled_tree, forward_tree, divided_tree}
 use Rattle.p9_lower.proofs.Plays.{bind_done}

@@ -1,24 +1,23 @@
 -- `op=`, `++` and `--`: what is read, computed and assigned.
-use Rattle.std.proofs.Common.{◌≡◌, ℕ, zero, suc, ◌+◌, ◌%◌, ◌==◌, ◌&&◌, ◌||◌, Bool, true, false, not, if◌then◌else◌, List, [], ◌∷◌, Option, Some, None, Result, Ok, Err, refl, sym, ap, ◌∙◌, subst}
+use Rattle.std.proofs.Common.{◌≡◌, ℕ, ◌==◌, ◌||◌, Bool, true, false, not, if◌then◌else◌, List, Option, Some, None, Result, Ok, Err, refl, sym, ap, ◌∙◌, subst}
 use Rattle.std.proofs.lemmas.Bool.{eqb-true, not-true}
-use Rattle.p9_base.specs.Words.{word_sum, word_difference, word_product, word_negation}
+use Rattle.p9_base.specs.Words.{word_product, word_negation}
 use Rattle.p9_lang.specs.declared.tree.CBinary.{CBinary}
 use Rattle.p9_lang.specs.declared.tree.CBinary.TheVariants as operator
-use Rattle.p9_lang.specs.Types.{TypeTree, Void, Char, UChar, Short, UShort, Int, UInt, Long, ULong, Pointer, Array, Function, Tagged, Tags}
+use Rattle.p9_lang.specs.Types.{TypeTree, Int, Pointer, Array, Function, Tagged, Tags}
 use Rattle.p9_lang.specs.Layout.{size_of, alignment_of}
 use Rattle.p9_lang.specs.Conversions.{is_pointer, is_integer, is_unsigned, is_long, integer_of, common, Conversion, Same, Integer, Null, Inner, Ambiguous, No, conversion}
 use Rattle.p9_lang.specs.Constants.{narrowed, works_unsigned}
 use Rattle.p9_cmean.specs.declared.Cause.{Cause}
-use Rattle.p9_cmean.specs.declared.Cause.TheVariants as cause
 use Rattle.p9_cmean.specs.declared.Place.{Place}
 use Rattle.p9_cmean.specs.Cells.{Value, Word, Address, Missing, Object, State}
 use Rattle.p9_cmean.specs.Cells as cells
-use Rattle.p9_cmean.specs.Plays.{Play, Done, Wrong, NoMeaning, bind}
-use Rattle.p9_cmean.specs.Places.{used, or_wrong, done_at, or_no_meaning}
-use Rattle.p9_cmean.specs.Access.{pointer_in, integer_in, loaded, integer_from, pointer_from}
+use Rattle.p9_cmean.specs.Plays.{Play, Done, bind}
+use Rattle.p9_cmean.specs.Places.{done_at, or_no_meaning}
+use Rattle.p9_cmean.specs.Access.{pointer_in, loaded, integer_from, pointer_from}
 use Rattle.p9_cmean.specs.Contents.{Content, content_of}
 use Rattle.p9_cmean.specs.Contents as contents
-use Rattle.p9_cmean.specs.Operators.{operation, if_integer, pointer_and_integer, integer_and_pointer, of_integers, moved_elements, element_offset}
+use Rattle.p9_cmean.specs.Operators.{operation, if_integer, pointer_and_integer, of_integers, moved_elements, element_offset}
 use Rattle.p9_cmean.specs.Expressions.{Surroundings, read_content, read_at, narrow, assign_scalar, result_conversion, step_operator, old_value}
 use Rattle.p9_cmean.specs.Expressions as source
 use Rattle.p9_cmean.proofs.Plays.{bind_assoc}
@@ -26,11 +25,11 @@ use Rattle.p9_tree.specs.declared.tree.Width.{Width}
 use Rattle.p9_tree.specs.declared.tree.BinOp.{BinOp}
 use Rattle.p9_tree.specs.declared.tree.BinOp.TheVariants as bin
 use Rattle.p9_tree.specs.Same as plays
-use Rattle.p9_tree.specs.Trees.{Tree, Update, Step}
-use Rattle.p9_tree.specs.Operations.{of_width, of_two}
+use Rattle.p9_tree.specs.Trees.{Tree, Update}
+use Rattle.p9_tree.specs.Operations.{of_two}
 use Rattle.p9_tree.specs.Meaning.{Environment, evaluate, load, store, operate, update, step}
 use Rattle.p9_tree.proofs.Same.{same_bind}
-use Rattle.p9_lower.specs.Operators.{width_of, word_operator, forward_tree, scaled_tree, elements_tree, updated_tree, step_bytes, step_amount}
+use Rattle.p9_lower.specs.Operators.{width_of, word_operator, forward_tree, scaled_tree, updated_tree, step_bytes, step_amount}
 use Rattle.p9_lower.specs.Premises.{works_on_words, is_additive, update_is_sound, is_plain}
 use Rattle.p9_lower.specs.Keeping.{Stands}
 use Rattle.p9_lower.proofs.Plays.{stands_refl, bind_done, along}
@@ -40,7 +39,7 @@ use Rattle.p9_lower.proofs.Moving.{moved_value, Moves, elements_move, word_added
 use Rattle.p9_lower.proofs.Operating.{some_ok, of_integer_type, integers_are}
 use Rattle.p9_lower.proofs.Trees.{operated, elements_in, forward_is, scaled_is}
 use Rattle.p9_lower.proofs.Access.{integer_loaded, pointer_loaded}
-use Rattle.p9_lower.proofs.Assigning.{IsThere, store_same, of_whole, assigned_free, result_bind}
+use Rattle.p9_lower.proofs.Assigning.{IsThere, store_same, kept_stored, assigned_free, result_bind}
 
 -- what isn't read has no operators
 no_operation : (op : CBinary) (tags : Tags) (objects : List Object) (type right : TypeTree) (v w : Value) → content_of type ≡ contents.Aggregate
@@ -94,10 +93,10 @@ read_operate : (around : Surroundings) (place read : Place) (op : CBinary) (type
 read_operate around place read op type right a a' v s k q g h = read_by (content_of type) around place read op type right a a' v s k q refl g h
 
 -- what comes of an operation is assigned
-plain_same : (around : Surroundings) (conversion : Conversion) (place : Place) (type : TypeTree) (a a' x : Value) (s : State) → is_plain conversion type ≡ true → Stands a a'
+plain_same : (around : Surroundings) (conversion : Conversion) (place : Place) (type : TypeTree) (a a' x : Value) (s : State) → is_plain conversion ≡ true → Stands a a'
     → plays.Same Stands (assign_scalar around conversion place type a x s) (store (width_of type) a' x s)
 plain_same around Same place type a a' x s c h =
-    assigned_free around Same place type a x x s _ (stands_refl x) (λ there. store_same around.tags type place s a a' x x h (of_whole (width_of type) x c there))
+    assigned_free around Same place type a x x s _ (stands_refl x) (λ there. kept_stored around.tags place type (is_integer type) a a' x s refl h there)
 plain_same around Integer place type a a' x s c h =
     assigned_free around Integer place type a x x s _ (stands_refl x) (λ there.
     result_bind place s (narrow type x) _ _ (λ y e. store_same around.tags type place s a a' x y h (narrow_width type x y e)))
@@ -106,7 +105,7 @@ plain_same around (Inner offset) place type a a' x s c h = cc
 plain_same around Ambiguous place type a a' x s c h = assigned_free around Ambiguous place type a x x s _ (stands_refl x) (λ there. tt)
 plain_same around No place type a a' x s c h = assigned_free around No place type a x x s _ (stands_refl x) (λ there. tt)
 
-common_is_plain : (tags : Tags) (unsigned long : Bool) (type : TypeTree) → is_pointer type ≡ false → is_plain (conversion tags (integer_of unsigned long) type false) type ≡ true
+common_is_plain : (tags : Tags) (unsigned long : Bool) (type : TypeTree) → is_pointer type ≡ false → is_plain (conversion tags (integer_of unsigned long) type false) ≡ true
 common_is_plain tags true true (Pointer t) h = cc
 common_is_plain tags true true type h = refl
 common_is_plain tags true false (Pointer t) h = cc
@@ -117,12 +116,12 @@ common_is_plain tags false false (Pointer t) h = cc
 common_is_plain tags false false type h = refl
 
 result_by : (around : Surroundings) (type right : TypeTree) (pointer : Bool) → is_pointer type ≡ pointer
-    → is_plain (if pointer then Same else conversion around.tags (common type right) type false) type ≡ true
+    → is_plain (if pointer then Same else conversion around.tags (common type right) type false) ≡ true
 result_by around (Pointer t) right true h = refl
 result_by around type right true h = cc
 result_by around type right false h = common_is_plain around.tags (is_unsigned type || is_unsigned right) (is_long type || is_long right) type h
 
-result_is_plain : (around : Surroundings) (type right : TypeTree) → is_plain (result_conversion around type right) type ≡ true
+result_is_plain : (around : Surroundings) (type right : TypeTree) → is_plain (result_conversion around type right) ≡ true
 result_is_plain around type right = result_by around type right (is_pointer type) refl
 
 -- `op=`

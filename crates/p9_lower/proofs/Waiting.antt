@@ -1,17 +1,16 @@
 -- The values of expressions that wait: fewer than their nodes.
-use Rattle.std.proofs.Common.{◌≡◌, ◌≤◌, ℕ, zero, suc, ◌+◌, ◌*◌, ◌==◌, Bool, true, false, if◌then◌else◌, Option, Some, None, refl, sym, ap, ◌∙◌, subst, arith, lit≤}
+use Rattle.std.proofs.Common.{◌≡◌, ◌≤◌, ℕ, suc, ◌+◌, ◌==◌, Bool, true, false, if◌then◌else◌, Option, Some, None, arith, lit≤}
 use Rattle.p9_lang.specs.declared.tree.CBinary.{CBinary}
 use Rattle.p9_lang.specs.declared.tree.CBinary.TheVariants as operator
 use Rattle.p9_lang.specs.declared.tree.CUnary.TheVariants as unary
-use Rattle.p9_lang.specs.declared.tree.Kind.{Kind}
 use Rattle.p9_lang.specs.declared.tree.Kind.TheVariants as kind
 use Rattle.p9_lang.specs.Trees.{node, none, more}
 use Rattle.p9_lang.specs.Types.{TypeTree, TypeRow, Pointer, Tags, Meant, Nothing, Outer, Static, EnumValue, TypeName}
 use Rattle.p9_lang.specs.Types as types
 use Rattle.p9_lang.specs.Layout.{size_of}
 use Rattle.p9_lang.specs.Conversions.{is_structure, Conversion, Same, Integer, Null, Inner, Ambiguous, No}
-use Rattle.p9_lang.specs.Constants.{type_at, works_unsigned}
-use Rattle.p9_lang.specs.Modules.{Label, Typed, TypedRow}
+use Rattle.p9_lang.specs.Constants.{type_at}
+use Rattle.p9_lang.specs.Modules.{Typed, TypedRow}
 use Rattle.p9_cmean.specs.Contents.{Content, content_of}
 use Rattle.p9_cmean.specs.Contents as contents
 use Rattle.p9_cmean.specs.Union.{weight_of, weighed_nodes, weighed_row}
@@ -19,10 +18,10 @@ use Rattle.p9_cmean.specs.Expressions.{operand_type, member_offset, parameters_o
 use Rattle.p9_tree.specs.declared.tree.Width.{Width}
 use Rattle.p9_tree.specs.declared.tree.Width.TheVariants as width
 use Rattle.p9_tree.specs.declared.tree.BinOp.TheVariants as bin
-use Rattle.p9_tree.specs.Trees.{Tree, Const, Addr, Bin, Copy, Store, Trees}
+use Rattle.p9_tree.specs.Trees.{Tree, Const, Addr, Bin, Copy, Store}
 use Rattle.p9_tree.specs.Charges.{waiting, waiting_row}
 use Rattle.p9_lower.specs.Names.{Setting, name_tree, symbol_tree, outer_symbol, static_symbol}
-use Rattle.p9_lower.specs.Operators.{width_of, narrowed_tree, content_tree, read_tree, moved_tree, scaled_tree, forward_tree, divided_tree, inner_tree, pointers_tree, pointer_integer_tree, integer_pointer_tree, binary_tree, word_operator, conversion_to, stored_tree, converted_tree, passed_tree, cast_tree, assigned_tree, elements_tree, updated_tree}
+use Rattle.p9_lower.specs.Operators.{width_of, narrowed_tree, content_tree, read_tree, moved_tree, scaled_tree, forward_tree, divided_tree, inner_tree, pointers_tree, pointer_integer_tree, integer_pointer_tree, binary_tree, conversion_to, stored_tree, converted_tree, passed_tree, cast_tree, assigned_tree, elements_tree, updated_tree}
 use Rattle.p9_lower.specs.Expressions.{named_tree, place_tree, value_tree, argument_trees}
 use Rattle.p9_lower.specs.Premises.{is_inner, ArgumentsWait, NodesWait, RowWaits}
 use Rattle.p9_lower.proofs.Charging.{weight_is}

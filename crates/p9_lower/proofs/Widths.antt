@@ -1,19 +1,20 @@
 -- What is narrowed, read and stored by a type's width is what the type asks for.
-use Rattle.std.proofs.Common.{◌≡◌, ℕ, zero, suc, ◌+◌, ◌*◌, ◌==◌, ◌&&◌, Bool, true, false, not, if◌then◌else◌, List, [], ◌∷◌, Option, Some, None, Result, Ok, Err, refl, sym, ap, ◌∙◌, subst}
+use Rattle.std.proofs.Common.{◌≡◌, ℕ, ◌+◌, ◌*◌, ◌==◌, ◌&&◌, Bool, true, false, if◌then◌else◌, List, [], ◌∷◌, Result, Ok, Err, refl, ap, ◌∙◌, subst}
 use Rattle.std.proofs.lemmas.Bool.{eqb-true}
 use Rattle.std.specs.List.{list_any, list_all}
 use Rattle.p9_lang.specs.Types.{TypeTree, Void, Char, UChar, Short, UShort, Int, UInt, Long, ULong, Pointer, Array, Function, Tagged, Tags}
 use Rattle.p9_lang.specs.Layout.{size_of, alignment_of}
+use Rattle.p9_lang.specs.Conversions.{is_integer}
 use Rattle.p9_lang.specs.Constants.{narrowed}
 use Rattle.p9_cmean.specs.declared.Cause.{Cause}
 use Rattle.p9_cmean.specs.declared.Cause.TheVariants as cause
 use Rattle.p9_cmean.specs.Cells.{Value, Word, Address, Missing, Cell, Unset, Byte, Part, Object}
-use Rattle.p9_cmean.specs.Cells as cells
-use Rattle.p9_cmean.specs.Access.{and_go, integer_in, null, target_in, accessed, is_unset, is_part, is_zero, number_of, integer_from, pointer_from, whole_pointer, loaded, stored}
-use Rattle.p9_cmean.specs.Contents.{content_of, Integer, Reference, Aggregate, Nothing}
+use Rattle.p9_cmean.specs.Access.{and_go, null, target_in, accessed, is_unset, is_part, is_zero, number_of, integer_from, pointer_from, whole_pointer, loaded, stored}
+use Rattle.p9_cmean.specs.Contents.{content_of, Integer, Reference}
 use Rattle.p9_cmean.specs.Expressions.{narrow}
+use Rattle.p9_tree.specs.declared.tree.Width.{Width}
 use Rattle.p9_tree.specs.declared.tree.Width.TheVariants as width
-use Rattle.p9_tree.specs.Operations.{narrowed_to, of_width, word_from, value_from, loaded_width, stored_width}
+use Rattle.p9_tree.specs.Operations.{narrowed_to, of_width, word_from, loaded_width, stored_width}
 use Rattle.p9_lower.specs.Operators.{width_of}
 
 -- one operation after the other
@@ -152,3 +153,20 @@ pub pointer_stores : (tags : Tags) (type : TypeTree) (objects : List Object) (a 
     → stored (size_of tags type) (alignment_of tags type) objects a v ≡ stored_width (width_of type) objects a v
 pointer_stores tags (Pointer t) objects a v c = refl
 pointer_stores tags type objects a v c = cc
+
+-- THE WIDTH OF A WORD: all that isn't an integer has it
+
+abbrev pub is_word_width : Width → Bool
+is_word_width width.S8 = false
+is_word_width width.U8 = false
+is_word_width width.S16 = false
+is_word_width width.U16 = false
+is_word_width width.W32 = true
+
+pub no_integer_width : (type : TypeTree) → is_integer type ≡ false → is_word_width (width_of type) ≡ true
+no_integer_width Void h = refl
+no_integer_width (Pointer t) h = refl
+no_integer_width (Array t n) h = refl
+no_integer_width (Function r ps) h = refl
+no_integer_width (Tagged i) h = refl
+no_integer_width type h = cc

@@ -1,11 +1,11 @@
 -- When trees mean what their sources mean: by the same plays, for surroundings and an environment in which
 -- names stand for the same.
-use Rattle.std.specs.Prelude.{◌≡◌, ℕ, Bool, true, false, not, ◌&&◌, List, Option, Some, None, option_map, slice_get}
+use Rattle.std.specs.Prelude.{◌≡◌, ℕ, Bool, false, List, Option, Some, None, option_map, slice_get}
 use Rattle.p9_base.specs.Words.{word_sum}
 use Rattle.p9_lang.specs.Types.{TypeTree}
 use Rattle.p9_lang.specs.Conversions.{is_function}
 use Rattle.p9_lang.specs.Symbols.{Symbol}
-use Rattle.p9_cmean.specs.Cells.{Pointer, Value, Missing}
+use Rattle.p9_cmean.specs.Cells.{Value, Missing}
 use Rattle.p9_cmean.specs.Access.{with_offset}
 use Rattle.p9_cmean.specs.Expressions.{Surroundings, outer_pointer}
 use Rattle.p9_tree.specs.Meaning.{Environment}

@@ -18,10 +18,8 @@ use Rattle.p9_cmean.specs.Union.{parameter_types, types_within}
 use Rattle.p9_cmean.specs.Expressions.{operand_type, parameters_of}
 use Rattle.p9_tree.specs.Trees.{Tree}
 use Rattle.p9_tree.specs.Charges.{pure}
-use Rattle.p9_tree.specs.declared.tree.Width.{Width}
-use Rattle.p9_tree.specs.declared.tree.Width.TheVariants as width
 use Rattle.p9_lower.specs.Names.{Setting, outer_symbol, static_symbol}
-use Rattle.p9_lower.specs.Operators.{width_of, conversion_to}
+use Rattle.p9_lower.specs.Operators.{conversion_to}
 use Rattle.p9_lower.specs.Expressions.{value_tree}
 use Rattle.p9_lower.specs.Modules.{setting_of, result_of}
 use Rattle.p9_lower.specs.Keeping.{is_function_at}
@@ -55,30 +53,16 @@ abbrev pub update_is_sound : CBinary → (type right : TypeTree) → Bool
 update_is_sound op (Pointer target) right = is_additive op && not (is_pointer right)
 update_is_sound op type right = works_on_words op && not (is_pointer right)
 
--- CONVERSIONS: a narrow integer goes through a store's narrowing
-abbrev pub is_word_width : Width → Bool
-is_word_width width.S8 = false
-is_word_width width.U8 = false
-is_word_width width.S16 = false
-is_word_width width.U16 = false
-is_word_width width.W32 = true
-
-abbrev pub conversion_is_sound : Conversion → (to : TypeTree) → Bool
-conversion_is_sound Same to = is_word_width (width_of to)
-conversion_is_sound Integer to = true
-conversion_is_sound Null to = true
-conversion_is_sound (Inner offset) to = true
-conversion_is_sound Ambiguous to = true
-conversion_is_sound No to = true
+-- CONVERSIONS
 
 -- what `op=` assigns is an operation's result
-abbrev pub is_plain : Conversion → (to : TypeTree) → Bool
-is_plain Same to = is_word_width (width_of to)
-is_plain Integer to = true
-is_plain Null to = false
-is_plain (Inner offset) to = false
-is_plain Ambiguous to = true
-is_plain No to = true
+abbrev pub is_plain : Conversion → Bool
+is_plain Same = true
+is_plain Integer = true
+is_plain Null = false
+is_plain (Inner offset) = false
+is_plain Ambiguous = true
+is_plain No = true
 
 -- NAMES have symbols, which are functions where the names are
 abbrev pub NameIsKnown : List Symbol → TypeTree → Meant → Type 0
@@ -91,12 +75,6 @@ NameIsKnown symbols type (TypeName other) = Unit {0}
 
 -- EXPRESSIONS
 
-abbrev pub ArgumentsAreSound : Setting → TypeRow → TypedRow → Type 0
-ArgumentsAreSound setting types.none arguments = Unit {0}
-ArgumentsAreSound setting (types.more parameter parameters) none = Unit {0}
-ArgumentsAreSound setting (types.more parameter parameters) (more first others) =
-    (conversion_is_sound (conversion_to setting.tags first parameter) parameter ≡ true) × ArgumentsAreSound setting parameters others
-
 abbrev pub NodeIsSound : Setting → Kind → Label → TypedRow → Type 0
 NodeIsSound setting (kind.Name x) label parts = NameIsKnown setting.symbols label.type label.means
 NodeIsSound setting (kind.Text texts) label parts = NameIsKnown setting.symbols label.type label.means
@@ -104,9 +82,6 @@ NodeIsSound setting kind.Index label (more array (more index none)) =
     operands_are_sound setting.tags operator.Add (operand_type array) (operand_type index) (value_tree setting index) ≡ true
 NodeIsSound setting (kind.Binary op) label (more left (more right none)) =
     operands_are_sound setting.tags op (operand_type left) (operand_type right) (value_tree setting right) ≡ true
-NodeIsSound setting kind.Call label (more function arguments) = ArgumentsAreSound setting (parameters_of (operand_type function)) arguments
-NodeIsSound setting (kind.Assign None) label (more left (more right none)) =
-    conversion_is_sound (conversion_to setting.tags right (type_at left)) (type_at left) ≡ true
 NodeIsSound setting (kind.Assign (Some op)) label (more left (more right none)) = update_is_sound op (type_at left) (operand_type right) ≡ true
 NodeIsSound setting k label parts = Unit {0}
 
@@ -131,16 +106,11 @@ AutomaticsAreKnown types (a ∷ others) = (slice_get types a.number ≡ Some a.n
 pub record InitialIsSound (setting : Setting) (a : Automatic) (e : Typed) : Type 0 where
   pub name : NameIsKnown setting.symbols a.name.type a.name.means
   pub expression : ExpressionIsSound setting e
-  pub converts : conversion_is_sound (conversion_to setting.tags e a.name.type) a.name.type ≡ true
 
 abbrev pub InitialisersAreSound : Setting → List Automatic → Type 0
 InitialisersAreSound setting [] = Unit {0}
 InitialisersAreSound setting (a ∷ others) =
     ((e : Typed) → a.initialiser ≡ Some e → InitialIsSound setting a e) × InitialisersAreSound setting others
-
-pub record ResultIsSound (setting : Setting) (e : Typed) : Type 0 where
-  pub expression : ExpressionIsSound setting e
-  pub converts : conversion_is_sound (conversion_to setting.tags e setting.result) setting.result ≡ true
 
 abbrev mutual
   pub StatementIsSound : Setting → List TypeTree → Typed → Type 0
@@ -160,7 +130,7 @@ abbrev mutual
       ExpressionIsSound setting first × LoopIsSound setting types test step others
   StatementIsSound setting types (node (kind.For false test step) label others) = LoopIsSound setting types test step others
   StatementIsSound setting types (node kind.Switch label (more e arms)) = ExpressionIsSound setting e × StatementsAreSound setting types arms
-  StatementIsSound setting types (node kind.Return label (more e none)) = ResultIsSound setting e
+  StatementIsSound setting types (node kind.Return label (more e none)) = ExpressionIsSound setting e
   StatementIsSound setting types (node k label parts) = Unit {0}
 
   pub StatementsAreSound : Setting → List TypeTree → TypedRow → Type 0
