@@ -57,3 +57,7 @@ module _ (f : AFunction) where
 
   pub frame-some : 4 ≤ frame
   frame-some = let k = first-above (greatest_named f.code) 0 (omega arith) in omega (arith, k)
+
+  -- the frame ends with a spare word
+  pub spare-word : (v p : ℕ) → slice_get offsets v ≡ Some p → p + slice_index f.autos v ≤ frame
+  spare-word v p e = let w = (offset-facts first f.autos v p (first-fourfold (greatest_named f.code)) e).2 in let h = up (slice_index f.autos v) in omega (arith, w, h)

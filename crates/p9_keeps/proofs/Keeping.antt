@@ -127,9 +127,6 @@ module _ (f : AFunction) (rs : List Region) (homes : List (Option ℕ)) (def : T
     clear = λ b l. entry.apart b (let t = taken-by in omega (arith, t, l));
   }
 
-  abbrev core : Core
-  core = y.state.core
-
   same_core : x.state.core ≡ y.state.core
   same_core = ap (λ (z : State). z.core) same
 

@@ -13,3 +13,4 @@ pub mod Variables
 pub mod Shifting
 pub mod Turning
 pub mod Keeping
+pub mod Valid

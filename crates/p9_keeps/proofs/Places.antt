@@ -33,7 +33,7 @@ memory-past f i [] k e = refl
 memory-past f i (q ∷ ps) zero e = absurd (none-some q (sym e))
 memory-past f i (q ∷ ps) (suc k) e = memory-past f (i + 1) ps k e
 
-mapped : (ps : List ℕ) (k q : ℕ) → slice_get ps k ≡ Some q → slice_get (map (λ x. Some x) ps) k ≡ Some (Some q)
+pub mapped : (ps : List ℕ) (k q : ℕ) → slice_get ps k ≡ Some q → slice_get (map (λ x. Some x) ps) k ≡ Some (Some q)
 mapped [] k q e = absurd (none-some q e)
 mapped (p ∷ ps) zero q e = ap (λ n. Some (Some n)) (same_Some p q e)
 mapped (p ∷ ps) (suc k) q e = mapped ps k q e

@@ -182,9 +182,6 @@ module _ (s : Scene) where
     ky : KeepsSizes d0 (put k d0 a v)
     ky = put-sizes k d0 a v
 
-    relaid : LaidOut (put k d0 a v) → (let z : Mach = without_text (filled k a v (without_text y)) in LaidOut z.state.core)
-    relaid l = bare-laid (put k d0 a v) l
-
     pub near-put : Near s (filled k a v (without_text x)) (filled k a v (without_text y))
     near-put = record {
       regs = λ q p. ap (λ z. slice_index z q) kx.regs ∙ (near.regs q p ∙ ap (λ z. slice_index z q) (sym ky.regs));
@@ -195,7 +192,7 @@ module _ (s : Scene) where
       output = near.output;
       stack = ap (λ z. slice_index z 29) kx.regs ∙ near.stack;
       words = put-words k d0 a v (bare-words y.state.core near.words);
-      laid = relaid (put-laid k d0 a v near.laid);
+      laid = bare-laid (put k d0 a v) (put-laid k d0 a v near.laid);
       counted = ap length kx.regs ∙ near.counted;
       variables = near.variables;
     }

@@ -157,9 +157,6 @@ module _ (s : Scene) (i m : ℕ) (x y : Mach) (now : Now s i m x y) (a : Abs) (f
       subst (IsFollowed s m x y) (sym (load-step (given s) w r b c0 (without_text x)))
       (by (is_free (given s).banned b (bytes_of w)) refl (aligned w b) refl (nat_le (bytes_of w) (readable c0 b)) refl)
     where
-      step_x : Step
-      step_x = write r (loaded w (get w c0 b)) (without_text x)
-
       by : (p : Bool) → is_free (given s).banned b (bytes_of w) ≡ p → (q : Bool) → aligned w b ≡ q → (n : Bool) → nat_le (bytes_of w) (readable c0 b) ≡ n → IsFollowed s m x y (guarded p (guarded q (guarded n (write r (loaded w (get w c0 b)) (without_text x)))))
       by false f q g n k = tt
       by true f false g n k = tt

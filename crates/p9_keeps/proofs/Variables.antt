@@ -10,7 +10,6 @@ use Rattle.p9_base.proofs.Holding.{register-word}
 use Rattle.p9_abs.specs.declared.instructions.Abs.{Abs}
 use Rattle.p9_abs.specs.declared.forms.Location.TheVariants.{Automatic}
 use Rattle.p9_abs.specs.declared.forms.Width.{Width}
-use Rattle.p9_abs.specs.declared.forms.Form.{Form}
 use Rattle.p9_abs.specs.declared.forms.Form.TheVariants as forms
 use Rattle.p9_abs.specs.Automatics.{holds_of, reads, is_variable, fills}
 use Rattle.p9_abs.specs.OneCall.{size_at}
@@ -26,7 +25,7 @@ use Rattle.p9_keeps.proofs.Cores.{get, put, aligned, load-step, store-step, IsIn
 use Rattle.p9_keeps.proofs.Living.{variable-size, variable-whole, matters-read, memory-home, home-apart}
 use Rattle.p9_keeps.proofs.Scenes.{Scene, given, made, made_side, place, made-taken}
 use Rattle.p9_keeps.proofs.Places.{memory-get, memory-past, has-place, place-free, place-stack, places-apart}
-use Rattle.p9_keeps.proofs.Matching.{Near, Held, home}
+use Rattle.p9_keeps.proofs.Matching.{Held, home}
 use Rattle.p9_keeps.proofs.Laying.{IsAt, form-is}
 use Rattle.p9_keeps.proofs.Shapes.{written, filled, same-register, near-place, near-home, range, some-bytes}
 use Rattle.p9_keeps.proofs.Stepping.{Now, IsFollowed, KeepsStack, alone, stays, made-step, wordy, onward, register, load, store, place-high, opened}
@@ -87,9 +86,6 @@ pub place-address : (s : Scene) (v r : ℕ) → is_variable s.f v ≡ true → r
 place-address s v r var e = let p = has-place s v var in let b = p.below in let h = s.high in omega (arith, e, b, h)
 
 module _ (s : Scene) (i m : ℕ) (x y : Mach) (now : Now s i m x y) (a : Abs) where
-  abbrev near : Near s x y
-  near = now.holds.near
-
   stack-same : reg y.state.core 29 ≡ reg x.state.core 29
   stack-same = sym (now.holds.near.regs 29 (inr (omega arith)))
 
@@ -135,9 +131,6 @@ module _ (s : Scene) (i m : ℕ) (x y : Mach) (now : Now s i m x y) (a : Abs) wh
   -- Reads
 
   module _ (w : Width) (v o r : ℕ) (t : IsAt s i a (forms.Load w (Automatic v o) r)) where
-    abbrev read : Form
-    read = forms.Load w (Automatic v o) r
-
     variable-read : is_variable s.f v ≡ true → KeepsStack x (write r (moved w (slice_index x.vars v)) (without_text x)) → (h : Option ℕ) → home s v i ≡ h → Held s h v x y →
         IfMach HoldsAll (acts (made s) (homed_load w h (slice_index s.p.offsets v + o) r) (without_text (alone y))) →
         steps_of (made_side s) y ≡ acts (made s) (homed_load w h (slice_index s.p.offsets v + o) r) (without_text y) →
@@ -222,9 +215,6 @@ module _ (s : Scene) (i m : ℕ) (x y : Mach) (now : Now s i m x y) (a : Abs) wh
         (near-home s x y h (moved w (reg y.state.core r)) now.holds.near (range s v i h at) words.words (slice_set x.vars v (stored w (reg x.state.core r))) (x.at + 1) counted) refl refl
         kept filled_one
       where
-        z_y : Mach
-        z_y = written h (moved w (reg y.state.core r)) (without_text y)
-
         kept : (u : ℕ) → is_variable s.f u ≡ true → fills u (size_at s.f u) (forms.Store w r (Automatic v o)) ≡ false → (q : Option ℕ) → home s u i ≡ q → Held s q u x y →
             Held s q u put_x (written h (moved w (reg y.state.core r)) (without_text y))
         kept u uv f None q held = λ k b. held k b ∙ sym (there u (unfilled u z.1 z.0 f))

@@ -1,3 +1,2 @@
 pub mod Lexed
-pub mod Opening
 pub mod Walking

@@ -12,64 +12,53 @@ use Rattle.p9_grammar.specs.declared.head.Head.TheVariants as head
 use Rattle.p9_grammar.specs.Scopes.{Scope}
 use Rattle.p9_grammar.specs.Machine.{Frame, Stack, State, Read, state, run, step, file_start}
 use Rattle.p9_grammar.specs.Promise.{IsFile, IsRead, BeginsFile, file_tokens}
-use Rattle.p9_grammar.proofs.Unique.{refuses-rightly, reads-files}
+use Rattle.p9_grammar.proofs.Unique.{reads-files}
 use Rattle.p9_grammar.proofs.Sound.{reads-only-files}
 use Rattle.p9_grammar.specs.declared.terminal.Terminal.TheVariants as t
 use Rattle.p9_prefix.specs.Growth.{height_so_far, nodes_so_far, raised, joined, height_of, size_of}
+use Rattle.p9_prefix.specs.Goals.{File}
 use Rattle.p9_prefix.proofs.Endless.{ends_once}
+use Rattle.p9_prefix.proofs.Wholes.{refuses}
 use Rattle.p9_viable.proofs.Beginning.{goes-on}
 use Rattle.p9_tree_build.specs.declared.frame.Frame as frame
 use Rattle.p9_tree_build.specs.Machines.{stack_of}
 use Rattle.p9_prefix.proofs.Growing.{only-grows}
 use Rattle.p9_terminal.specs.Terminals.{terminal_of, terminals}
-use Rattle.p9_parse.specs.declared.fault.ParseFault.{ParseFault}
-use Rattle.p9_parse.specs.declared.fault.ParseFault.TheVariants as fault
-use Rattle.p9_parse.specs.Units.{Begins, BreaksAt, AllHigher, AllLarger, Refuses, ReadsOne, IsWithin, EndsInEnd, is_over, is_whole, is_file}
+use Rattle.p9_decl.specs.declared.fault.ParseFault.{ParseFault}
+use Rattle.p9_decl.specs.declared.fault.ParseFault.TheVariants as fault
+use Rattle.p9_parse.specs.Units.{Begins, BreaksAt, AllHigher, AllLarger, Refuses, EndsInEnd, is_over, is_whole, is_file}
+use Rattle.p9_decl.specs.Walks.{HasRead, IsBehind, IsWithin, Stops}
 
-run-none : (ts : List Terminal) → run None ts ≡ None
-run-none [] = refl
-run-none (t ∷ ts) = refl
+begun : (ts : List Token) (n : ℕ) (st : State) → IsBehind file_start ts n st → Begins ts n
+begun ts n st e = let b = goes-on File (terminals (take n ts)) st e in (b.0, b.1, b.2.0, b.2.1)
 
-run-append : (r : Option State) (xs ys : List Terminal) → run r (xs ++ ys) ≡ run (run r xs) ys
-run-append r [] ys = refl
-run-append None (x ∷ xs) ys = sym (run-none ys)
-run-append (Some st) (x ∷ xs) ys = run-append (step st x) xs ys
+refused : (ts : List Token) (n : ℕ) → run (Some file_start) (terminals (take n ts)) ≡ None → Begins ts n → ⊥
+refused ts n e (items, rest, f, g) = refuses File (terminals (take n ts)) e (items, rest, (f, g))
 
-pub one_step : (ts : List Token) (i : ℕ) (d : Token) (st : State) → i < length ts → run (Some file_start) (terminals (take i ts)) ≡ Some st →
-    run (Some file_start) (terminals (take (i + 1) ts)) ≡ step st (terminal_of (get_or ts i d).kind)
-one_step ts i d st h e =
-    ap (λ xs. run (Some file_start) (terminals xs)) (take_more ts i d h)
-    ∙ ap (run (Some file_start)) (map-append (λ (t : Token). terminal_of t.kind) (take i ts) (get_or ts i d ∷ []))
-    ∙ run-append (Some file_start) (terminals (take i ts)) (terminal_of (get_or ts i d).kind ∷ [])
-    ∙ ap (λ r. run r (terminal_of (get_or ts i d).kind ∷ [])) e
+higher : (ts : List Token) (n limit : ℕ) (st : State) → IsBehind file_start ts n st → limit < height_so_far st → AllHigher ts n limit
+higher ts n limit st e h items rest is f = let g = only-grows File items (terminals (take n ts)) rest st (is, f) e in omega (arith, g.0)
 
-begun : (ts : List Token) (n : ℕ) (st : State) → run (Some file_start) (terminals (take n ts)) ≡ Some st → Begins ts n
-begun ts n st e = goes-on (terminals (take n ts)) st e
+larger : (ts : List Token) (n limit : ℕ) (st : State) → IsBehind file_start ts n st → limit < nodes_so_far st → AllLarger ts n limit
+larger ts n limit st e h items rest is f = let g = only-grows File items (terminals (take n ts)) rest st (is, f) e in omega (arith, g.1)
 
-breaks : (ts : List Token) (i : ℕ) (st : State) → run (Some file_start) (terminals (take i ts)) ≡ Some st → run (Some file_start) (terminals (take (i + 1) ts)) ≡ None → BreaksAt ts i
-breaks ts i st r e = (begun ts i st r, refuses-rightly (terminals (take (i + 1) ts)) e)
+-- What stops the reader of a file.
+pub stopped : (ts : List Token) (from : ℕ) (e : ParseFault) → from ≡ 0 → Stops file_start ts from e → Refuses ts e
+stopped ts from (fault.Syntax k) z (n, p, h, (st, b), r) =
+    let q : n ≡ k = omega (arith, p, z) in
+    (omega (arith, q, h), subst (BreaksAt ts) q (begun ts n st b, refused ts (n + 1) r))
+stopped ts from (fault.TooDeep limit item) z (l, (n, st, b, x, h, i)) =
+    (l, (n, begun ts n st b, higher ts n limit st b (omega (arith, l, h)), (st, b, i)))
+stopped ts from (fault.TooManyNodes limit item) z (l, (n, st, b, x, h, i)) =
+    (l, (n, begun ts n st b, larger ts n limit st b (omega (arith, l, h)), (st, b, i)))
+stopped ts from fault.Memory z h = tt
 
-higher : (ts : List Token) (n limit : ℕ) (st : State) → run (Some file_start) (terminals (take n ts)) ≡ Some st → limit < height_so_far st → AllHigher ts n limit
-higher ts n limit st e h items rest is f = let g = only-grows items (terminals (take n ts)) rest st is f e in omega (arith, g.0)
+-- Before the first token both limits are kept.
+pub starts_within : (st : State) → st ≡ file_start → IsWithin st
+starts_within st e = subst IsWithin (sym e) (omega arith, omega arith)
 
-larger : (ts : List Token) (n limit : ℕ) (st : State) → run (Some file_start) (terminals (take n ts)) ≡ Some st → limit < nodes_so_far st → AllLarger ts n limit
-larger ts n limit st e h items rest is f = let g = only-grows items (terminals (take n ts)) rest st is f e in omega (arith, g.1)
-
-pub read_step : (ts : List Token) (i : ℕ) (x : Token) (st : State) → x ≡ get_or ts i x → i < length ts → run (Some file_start) (terminals (take i ts)) ≡ Some st →
-    run (Some file_start) (terminals (take (i + 1) ts)) ≡ step st (terminal_of x.kind)
-read_step ts i x st q h e = one_step ts i x st h e ∙ ap (λ (y : Token). step st (terminal_of y.kind)) (sym q)
-
--- What is refused at a token.
-pub refused_there : (A : Type 0) (ts : List Token) (i k : ℕ) (x : Token) (st new : State) (e : ParseFault) → k ≡ i → x ≡ get_or ts i x → i < length ts →
-    run (Some file_start) (terminals (take i ts)) ≡ Some st → ReadsOne {A = A} (step st (terminal_of x.kind)) k (Err e) new → Refuses ts e
-refused_there A ts i k x st new (fault.Syntax j) p q h r w =
-    let z : j ≡ i = w.0 ∙ p in
-    (omega arith, subst (BreaksAt ts) (sym z) (breaks ts i st r (read_step ts i x st q h r ∙ w.1)))
-refused_there A ts i k x st new (fault.TooDeep limit item) p q h r w =
-    (w.1, (i + 1, begun ts (i + 1) new (read_step ts i x st q h r ∙ w.0), higher ts (i + 1) limit new (read_step ts i x st q h r ∙ w.0) (omega (arith, w.1, w.2)), (new, read_step ts i x st q h r ∙ w.0, w.3)))
-refused_there A ts i k x st new (fault.TooManyNodes limit item) p q h r w =
-    (w.1, (i + 1, begun ts (i + 1) new (read_step ts i x st q h r ∙ w.0), larger ts (i + 1) limit new (read_step ts i x st q h r ∙ w.0) (omega (arith, w.1, w.2)), (new, read_step ts i x st q h r ∙ w.0, w.3)))
-refused_there A ts i k x st new fault.Memory p q h r w = tt
+-- A file that is read from its first token on.
+pub read_from : (ts us : List Token) (first st : State) → first ≡ file_start → us ≡ ts → HasRead first us st → run (Some file_start) (terminals ts) ≡ Some st
+read_from ts us first st e f h = ap (λ s. run (Some s) (terminals ts)) (sym e) ∙ ap (λ xs. run (Some first) (terminals xs)) (sym f) ∙ h.0
 
 -- A file that has come to its end.
 
@@ -103,7 +92,8 @@ not_alone fs h = several (reverse fs) (omega (arith, length-reverse fs))
 -- Behind the end all of a file is read.
 pub end_is_read : (ts : List Token) (st : State) → run (Some file_start) (terminals ts) ≡ Some st → EndsInEnd ts → ((items : Trees) → IsRead items (Some st) → ⊥) → ⊥
 end_is_read ts st e h g =
-    let b : BeginsFile (terminals ts) = goes-on (terminals ts) st e in
+    let g0 = goes-on File (terminals ts) st e in
+    let b : BeginsFile (terminals ts) = (g0.0, g0.1, g0.2.0, g0.2.1) in
     let ends : b.1 ≡ [] = ends_once b.0 h.0 b.1 (b.3 ∙ ap (λ us. us ++ b.1) h.1 ∙ append_assoc h.0 (t.End ∷ []) b.1) in
     let same : file_tokens b.0 ≡ terminals ts = b.3 ∙ ap (λ us. terminals ts ++ us) ends ∙ append-nil (terminals ts) in
     g b.0 (subst (IsRead b.0) (ap (run (Some file_start)) same ∙ e) (reads-files b.0 b.2))

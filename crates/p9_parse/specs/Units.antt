@@ -7,11 +7,11 @@ use Rattle.p9_grammar.specs.Trees.{Trees, height_in, nodes_in}
 use Rattle.p9_grammar.specs.Promise.{IsFile, BeginsFile, file_tokens}
 use Rattle.p9_grammar.specs.declared.head.Head.{Head}
 use Rattle.p9_grammar.specs.declared.head.Head.TheVariants as head
-use Rattle.p9_grammar.specs.Machine.{Frame, Read, Stack, State, start_of, run, file_start}
-use Rattle.p9_prefix.specs.Growth.{height_so_far, nodes_so_far}
+use Rattle.p9_grammar.specs.Machine.{Frame, Stack, State, run, file_start}
 use Rattle.p9_terminal.specs.Terminals.{terminals}
-use Rattle.p9_parse.specs.declared.fault.ParseFault.{ParseFault}
-use Rattle.p9_parse.specs.declared.fault.ParseFault.TheVariants as fault
+use Rattle.p9_decl.specs.declared.fault.ParseFault.{ParseFault}
+use Rattle.p9_decl.specs.declared.fault.ParseFault.TheVariants as fault
+use Rattle.p9_decl.specs.Walks.{item_start}
 
 -- The last token is the end.
 abbrev pub EndsInEnd : List Token → Type 0
@@ -35,20 +35,6 @@ abbrev pub AllLarger : List Token → (n limit : ℕ) → Type 0
 AllLarger tokens n limit =
     (items : Trees) (rest : List Terminal) → IsFile items → file_tokens items ≡ terminals (take n tokens) ++ rest → limit < nodes_in items
 
-abbrev pub last_start : Option Read → (at : ℕ) → ℕ
-last_start None at = at
-last_start (Some n) at = start_of n.tree
-
--- The first token of the item that is open or has just been read.
-abbrev pub item_at : Stack → Option Read → (at : ℕ) → ℕ
-item_at [] last at = at
-item_at (f ∷ []) last at = last_start last at
-item_at (f ∷ g ∷ []) last at = f.from
-item_at (f ∷ g ∷ h ∷ s) last at = item_at (g ∷ h ∷ s) last at
-
-abbrev pub item_start : State → ℕ
-item_start st = item_at st.stack st.last st.at
-
 -- Behind so many of the tokens the reader stands in this item.
 abbrev pub IsInItem : List Token → (n item : ℕ) → Type 0
 IsInItem tokens n item = (st : State) × (run (Some file_start) (terminals (take n tokens)) ≡ Some st) × (item ≡ item_start st)
@@ -63,30 +49,6 @@ Refuses tokens fault.Memory = ⊤
 abbrev pub IfRefused : {A : Type 0} → List Token → Result A ParseFault → Type 0
 IfRefused tokens (Ok x) = ⊤
 IfRefused tokens (Err e) = Refuses tokens e
-
--- What the machine has read keeps both limits.
-abbrev pub IsWithin : State → Type 0
-IsWithin st = (height_so_far st ≤ 100) × (nodes_so_far st ≤ 100000)
-
--- A step behind which both limits are kept; or it is refused at this place, or passes a limit.
-abbrev pub ReadsOne : {A : Type 0} → Option State → ℕ → Result A ParseFault → State → Type 0
-ReadsOne r k (Ok x) st = (r ≡ Some st) × IsWithin st
-ReadsOne r k (Err (fault.Syntax j)) st = (j ≡ k) × (r ≡ None)
-ReadsOne r k (Err (fault.TooDeep limit item)) st = (r ≡ Some st) × (limit ≡ 100) × (100 < height_so_far st) × (item ≡ item_start st)
-ReadsOne r k (Err (fault.TooManyNodes limit item)) st = (r ≡ Some st) × (limit ≡ 100000) × (100000 < nodes_so_far st) × (item ≡ item_start st)
-ReadsOne r k (Err fault.Memory) st = ⊤
-
--- Both limits are kept, or one is passed.
-abbrev pub Limits : {A : Type 0} → Result A ParseFault → State → Type 0
-Limits (Ok x) st = IsWithin st
-Limits (Err (fault.Syntax k)) st = ⊥
-Limits (Err (fault.TooDeep limit item)) st = (limit ≡ 100) × (100 < height_so_far st) × (item ≡ item_start st)
-Limits (Err (fault.TooManyNodes limit item)) st = (limit ≡ 100000) × (100000 < nodes_so_far st) × (item ≡ item_start st)
-Limits (Err fault.Memory) st = ⊤
-
--- The machine has read all tokens, within both limits.
-abbrev pub HasRead : List Token → State → Type 0
-HasRead tokens st = (run (Some file_start) (terminals tokens) ≡ Some st) × IsWithin st
 
 abbrev pub is_over : Head → Bool
 is_over head.FileOver = true

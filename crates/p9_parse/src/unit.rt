@@ -2,83 +2,20 @@
 ghost use Rattle.std.specs.Prelude.{◌≡◌, ◌≤◌, reverse, IfOk, IfSome, IfNone, Some};
 ghost use Rattle.p9_grammar.specs.Trees.{Trees, trees_of, height_in, nodes_in};
 ghost use Rattle.p9_grammar.specs.Promise.{IsFile, IsRead, file_tokens};
-ghost use Rattle.p9_grammar.specs.Machine.{step};
-ghost use Rattle.p9_terminal.specs.Terminals.{terminal_of, terminals};
+ghost use Rattle.p9_terminal.specs.Terminals.{terminals};
 ghost use Rattle.p9_tree_build.specs.Machines.{frame_of, stack_of};
-ghost use Rattle.p9_tree_reader.specs.Reading.{state_of, Steps};
-ghost use Rattle.p9_parse.specs.Units.{EndsInEnd, IfRefused, ReadsOne, Limits, HasRead, is_over, is_whole, is_file};
+ghost use Rattle.p9_tree_reader.specs.Reading.{state_of};
+ghost use Rattle.p9_parse.specs.Units.{EndsInEnd, IfRefused, is_over, is_whole, is_file};
 
-use crate::ParseFault;
-use crate::limits::{height_so_far, item_start, nodes_so_far};
 use p9_base::Name;
+use p9_decl::{ParseFault, read_all};
 use p9_grammar::Head;
 use p9_lang::{Ident, Node, Tree};
-use p9_lex::{Token, Tokens};
-use p9_terminal::terminal;
+use p9_lex::Tokens;
 use p9_tree_build::{Body, Frame};
-use p9_tree_reader::{ReadFault, Reader};
+use p9_tree_reader::Reader;
 use sqlite_items::Items;
 use std::alloc::{AllocError, Global};
-
-const MAX_HEIGHT: u32 = 100;
-
-const MAX_NODES: u32 = 100_000;
-
-fn take(alloc: Global, reader: &mut Reader, token: &Token) -> Result<(), ReadFault>
-    ensures { Steps (step (state_of reader.old) (terminal_of token.now.kind)) result (state_of reader.new) }
-{
-    let terminal = terminal(alloc, &token.kind)?;
-    reader.step(alloc, &terminal)
-}
-
-fn keep_limits(reader: &Reader) -> Result<(), ParseFault>
-    ensures { Limits result (state_of reader.now) }
-{
-    if MAX_HEIGHT < height_so_far(reader)? {
-        return Err(ParseFault::TooDeep {
-            limit: MAX_HEIGHT,
-            item: item_start(reader),
-        });
-    }
-    if MAX_NODES < nodes_so_far(reader)? {
-        return Err(ParseFault::TooManyNodes {
-            limit: MAX_NODES,
-            item: item_start(reader),
-        });
-    }
-    Ok(())
-}
-
-fn read_one(alloc: Global, reader: &mut Reader, token: &Token, place: u32) -> Result<(), ParseFault>
-    ensures { ReadsOne (step (state_of reader.old) (terminal_of token.now.kind)) place result (state_of reader.new) }
-{
-    match take(alloc, reader, token) {
-        Ok(()) => keep_limits(reader),
-        Err(ReadFault::Refused) => Err(ParseFault::Syntax(place)),
-        Err(ReadFault::Memory) => Err(ParseFault::Memory),
-    }
-}
-
-fn place_of(at: usize) -> Result<u32, AllocError>
-    ensures { IfOk result (λ place. place ≡ at) }
-{
-    u32::try_from(at).map_err(|_| AllocError)
-}
-
-fn read_all(alloc: Global, tokens: &[Token]) -> Result<Reader, ParseFault>
-    ensures read { IfOk result (λ r. HasRead tokens.now (state_of r)) }
-    ensures refused { IfRefused tokens.now result }
-{
-    let mut reader = Reader::of_file(alloc)?;
-    for (i, token) in tokens.iter().enumerate() {
-        let place = place_of(i)?;
-        match read_one(alloc, &mut reader, token, place) {
-            Ok(()) => {}
-            Err(fault) => return Err(fault),
-        }
-    }
-    Ok(reader)
-}
 
 fn is_over(head: &Head) -> bool
     ensures { result ≡ is_over head.now }
@@ -163,7 +100,8 @@ pub fn parse(alloc: Global, tokens: &Tokens) -> Result<Tree, ParseFault>
     ensures nodes { IfOk result (λ tree. nodes_in (trees_of tree.items) ≤ 100000) }
     ensures refused { IfRefused tokens.now.list.items result }
 {
-    let reader = match read_all(alloc, tokens.list.as_slice()) {
+    let first = Reader::of_file(alloc)?;
+    let reader = match read_all(alloc, first, tokens.list.as_slice(), 0) {
         Ok(reader) => reader,
         Err(fault) => return Err(fault),
     };

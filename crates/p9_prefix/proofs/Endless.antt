@@ -1,5 +1,5 @@
 -- The end stands in a file's tokens once, behind all others.
-use Rattle.std.proofs.Common.{◌≡◌, ℕ, zero, suc, Bool, true, false, List, [], ◌∷◌, ◌++◌, ◌-◌, map, Option, Some, None, refl, sym, ap, ◌∙◌}
+use Rattle.std.proofs.Common.{◌≡◌, subst, ℕ, zero, suc, Bool, true, false, List, [], ◌∷◌, ◌++◌, ◌-◌, map, Option, Some, None, refl, sym, ap, ◌∙◌}
 use Rattle.std.specs.Prelude.{⊤}
 use Rattle.std.proofs.lemmas.Bool.{false≢true}
 use Rattle.p9_lang.specs.declared.tree.EntryBy.{EntryBy}
@@ -18,14 +18,11 @@ use Rattle.p9_grammar.specs.Trees.{Tree, node, Trees, none, more, count}
 use Rattle.p9_grammar.specs.Symbols.{Symbol, Write, Part, Enter, Pointed, Plain, Declares, expression, assignment, conditional, part, sign, right_side, spec_symbols, word_symbols, tag_key, named, in_braces, many, listed, later, optional, at_most_one, declarator, declarator_of, declarators, later_declarators, initialiser, qualifier, inner_declarator, parameters, parameter_list, behind, entry_place, branches, texts, is_typedef, spec_parts}
 use Rattle.p9_grammar.specs.Grammar.{tokens, write}
 use Rattle.p9_grammar.specs.Promise.{file_tokens}
-
-abbrev pub is_end : Terminal → Bool
-is_end t.End = true
-is_end _ = false
-
-abbrev pub Endless : List Terminal → Type 0
-Endless [] = ⊤
-Endless (x ∷ xs) = (is_end x ≡ false) × Endless xs
+use Rattle.p9_grammar.specs.Scopes.{Scope}
+use Rattle.p9_prefix.specs.Ends.{is_end, Endless, PhrasesAreEndless}
+use Rattle.p9_prefix.specs.declared.phrase.Phrase.{Phrase}
+use Rattle.p9_prefix.specs.declared.phrase.Phrase.TheVariants.{Expression, Declaration}
+use Rattle.p9_prefix.specs.Goals.{head_symbols, IsDeclaration, IsPhrase}
 
 abbrev Quiet : Symbol → Type 0
 Quiet (Write x) = is_end x ≡ false
@@ -244,3 +241,25 @@ nothing-behind (x ∷ y ∷ front) rest e = absurd (cc)
 pub ends_once : (items : Trees) (front rest : List Terminal) → file_tokens items ≡ front ++ (t.End ∷ rest) → rest ≡ []
 ends_once none front rest e = nothing-behind front rest e
 ends_once (more n ns) front rest e = behind-endless (tokens n) (file_tokens ns) front rest (endless n) (λ f. ends_once ns f rest) e
+
+-- No end stands in a phrase.
+
+quiet-head : (ws : List SpecWord) → AllQuiet (head_symbols ws)
+quiet-head ws = both (spec_symbols ws) _ (quiet-spec ws) (tt, (refl, tt))
+
+endless-declaration : (n : Tree) (scope : Scope) (at : ℕ) (ts : List Terminal) → IsDeclaration scope at n ts → Endless ts
+endless-declaration (node (kind.Function s) token parts) scope at ts h = subst Endless h.3 (endless-write (head_symbols s.words) parts (quiet-head s.words))
+endless-declaration (node k token parts) scope at ts h = subst Endless h.1 (endless (node k token parts))
+
+pub phrases-are-endless : PhrasesAreEndless
+phrases-are-endless Expression scope at n ts h = subst Endless h.1 (endless n)
+phrases-are-endless Declaration scope at n ts h = endless-declaration n scope at ts h
+
+-- Of tokens with an end behind them, a beginning without an end is one of the tokens.
+pub cut : (xs ts rest : List Terminal) → Endless ts → xs ++ (t.End ∷ []) ≡ ts ++ rest → (others : List Terminal) × (xs ≡ ts ++ others)
+unfolding tail head-or
+cut xs [] rest q e = (xs, refl)
+cut [] (x ∷ ts) rest q e = absurd (false≢true (sym q.0 ∙ sym (ap (λ us. is_end (head-or t.Other us)) e)))
+cut (y ∷ xs) (x ∷ ts) rest q e =
+    let r = cut xs ts rest q.1 (ap tail e) in
+    (r.0, ap (λ us. y ∷ us) r.1 ∙ ap (λ z. z ∷ (ts ++ r.0)) (ap (head-or t.Other) e))

@@ -14,18 +14,20 @@ use Rattle.p9_grammar.specs.Trees.{count}
 use Rattle.p9_grammar.specs.Promise.{file_scope}
 use Rattle.p9_grammar.specs.Machine.{Frame, Read, Stack, State, state, fresh, moved, made, Begin, Pushes, Leaf, Under, Nowhere, Move, Shift, Ends, Opens, Over, Refused, After, To, Makes, Unwanted, Join, Joins, Posts, Lengthens, Apart, inside, opening, begin, wanted, opens, resolve, attach, attached, role, retold, move, joining, join, settle, choose, decide, begins_type, is_close_paren, or_close_paren, feed, fed, going, stepped, step, run, file_start}
 use Rattle.p9_grammar.proofs.Unique.{file-read, file_end}
+use Rattle.p9_prefix.specs.Goals.{Goal, File, One, start}
+use Rattle.p9_prefix.proofs.Wholes.{Arrives, arrives, run-append}
 use Rattle.p9_prefix.specs.Growth.{raised, joined, height_of, size_of, OnlyGrows}
 use Rattle.p9_prefix.proofs.Textless.{Bare, bare-node, bare-leaf, GoodMove, GoodAfter, GoodJoin, good-move, good-after, good-join}
 
-raised-le : (s : Stack) (a b : ℕ) → a ≤ b → raised s a ≤ raised s b
+pub raised-le : (s : Stack) (a b : ℕ) → a ≤ b → raised s a ≤ raised s b
 raised-le [] a b e = e
 raised-le (f ∷ s) a b e = raised-le s (suc (max (height_in f.parts) a)) (suc (max (height_in f.parts) b)) (omega arith)
 
-joined-le : (s : Stack) (a b : ℕ) → a ≤ b → joined s a ≤ joined s b
+pub joined-le : (s : Stack) (a b : ℕ) → a ≤ b → joined s a ≤ joined s b
 joined-le [] a b e = e
 joined-le (f ∷ s) a b e = joined-le s (suc (nodes_in f.parts + a)) (suc (nodes_in f.parts + b)) (omega arith)
 
-le-trans : (a b c : ℕ) → a ≤ b → b ≤ c → a ≤ c
+pub le-trans : (a b c : ℕ) → a ≤ b → b ≤ c → a ≤ c
 le-trans a b c p q = omega arith
 
 -- at least so many nodes and so high, with a part of this size and height
@@ -43,11 +45,11 @@ abbrev Rises : (k h : ℕ) → Option State → Type 0
 Rises k h None = ⊤
 Rises k h (Some st) = Reaches k h st.stack (size_of st.last) (height_of st.last) × BareLast st.last
 
-height-push : (ps : Trees) (n : Tree) → height_in (push ps n) ≡ max (height_in ps) (height n)
+pub height-push : (ps : Trees) (n : Tree) → height_in (push ps n) ≡ max (height_in ps) (height n)
 height-push none n = omega arith
 height-push (more m ms) n = let e : height_in (push ms n) ≡ max (height_in ms) (height n) = height-push ms n in omega arith
 
-nodes-push : (ps : Trees) (n : Tree) → nodes_in (push ps n) ≡ nodes_in ps + nodes n
+pub nodes-push : (ps : Trees) (n : Tree) → nodes_in (push ps n) ≡ nodes_in ps + nodes n
 nodes-push none n = omega arith
 nodes-push (more m ms) n = let e : nodes_in (push ms n) ≡ nodes_in ms + nodes n = nodes-push ms n in omega arith
 
@@ -163,31 +165,20 @@ run-rises [] r k h p = p
 run-rises (x ∷ ts) None k h p = tt
 run-rises (x ∷ ts) (Some st) k h p = run-rises ts (step st x) k h (step-rises st x k h p)
 
-run-none : (ts : List Terminal) → run None ts ≡ None
-run-none [] = refl
-run-none (x ∷ ts) = refl
-
-run-append : (r : Option State) (xs ys : List Terminal) → run r (xs ++ ys) ≡ run (run r xs) ys
-run-append r [] ys = refl
-run-append None (x ∷ xs) ys = sym (run-none ys)
-run-append (Some st) (x ∷ xs) ys = run-append (step st x) xs ys
-
-starts : Rises 0 0 (Some file_start)
-starts = ((omega arith, omega arith), tt)
+starts : (goal : Goal) → Rises 0 0 (Some (start goal))
+starts File = ((omega arith, omega arith), tt)
+starts (One p scope at) = ((omega arith, omega arith), tt)
 
 last-bare : (st : State) → Rises 0 0 (Some st) → BareLast st.last
 last-bare st p = p.1
 
-ends : (k h : ℕ) (items : Trees) (tl : Told) (scope : Scope) (at : ℕ) → Rises k h (Some (file_end items tl scope at)) → (k ≤ suc (nodes_in items + 0)) × (h ≤ suc (max (height_in items) 0))
-ends k h items tl scope at p = (p.0.0, p.0.1)
-
 pub only-grows : OnlyGrows
-only-grows items front rest st is e r =
-    let bare : BareLast st.last = last-bare st (subst (Rises 0 0) r (run-rises front (Some file_start) 0 0 starts)) in
+only-grows goal ns front rest st w r =
+    let bare : BareLast st.last = last-bare st (subst (Rises 0 0) r (run-rises front (Some (start goal)) 0 0 (starts goal))) in
     let k : ℕ = joined st.stack (size_of st.last) in
     let h : ℕ = raised st.stack (height_of st.last) in
     let reached : Rises k h (run (Some st) rest) = run-rises rest (Some st) k h ((omega arith, omega arith), bare) in
-    let end : run (Some st) rest ≡ Some (file_end items nothing (through (file_symbols (count items)) items file_scope) (past_in (file_symbols (count items)) items 0)) =
-    ap (λ q. run q rest) (sym r) ∙ sym (run-append (Some file_start) front rest) ∙ ap (run (Some file_start)) (sym e) ∙ file-read items is in
-    let bounds : (k ≤ suc (nodes_in items + 0)) × (h ≤ suc (max (height_in items) 0)) = ends k h items nothing (through (file_symbols (count items)) items file_scope) (past_in (file_symbols (count items)) items 0) (subst (Rises k h) end reached) in
-    (omega (arith, bounds.1), omega (arith, bounds.0))
+    let a = arrives goal ns (front ++ rest) w in
+    let end : run (Some st) rest ≡ Some a.st = ap (λ q. run q rest) (sym r) ∙ sym (run-append (Some (start goal)) front rest) ∙ a.is in
+    let bounds : Rises k h (Some a.st) = subst (Rises k h) end reached in
+    (omega (arith, bounds.0.1, a.high), omega (arith, bounds.0.0, a.many))

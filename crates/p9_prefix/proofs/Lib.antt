@@ -1,3 +1,6 @@
 pub mod Textless
 pub mod Growing
 pub mod Endless
+pub mod Heading
+pub mod Wholes
+pub mod Closing

@@ -1,2 +1,3 @@
 pub mod Growth
 pub mod Ends
+pub mod Goals

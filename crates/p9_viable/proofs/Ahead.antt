@@ -23,7 +23,7 @@ use Rattle.p9_grammar.specs.Scopes.{Scope, Told, add, leave}
 use Rattle.p9_grammar.specs.Machine.{Frame, Read, Stack, State, state, made, step, run, Move, Over, Makes, Apart, resolve, attach, attached, first_param, only_void, joining, join, join_expression, join_declarator, settle, fed, decide, wanted, role, move, spec_move, retold, spec, behind, behind_type, ends_spec, else_move}
 use Rattle.p9_grammar.specs.Grammar.{has_type, pointed, grouped}
 use Rattle.std.proofs.lemmas.Bool.{false≢true}
-use Rattle.p9_grammar.specs.Promise.{IsRead}
+use Rattle.p9_prefix.specs.Goals.{Goal, HasEnded}
 use Rattle.p9_grammar.proofs.Tells.{class_of}
 use Rattle.p9_grammar.proofs.Heads.{has_type-behind}
 use Rattle.p9_grammar.proofs.Moves.{is_after, dummy}
@@ -77,6 +77,7 @@ close context.Type = []
 -- What ends an open node behind a part of it.
 abbrev pub ahead : Head → List Terminal
 ahead head.FileItems = t.End ∷ []
+ahead head.GoalExpression = t.End ∷ []
 ahead head.Group = rp ∷ []
 ahead head.CastType = rp ∷ zero_ ∷ []
 ahead head.SizeofType = rp ∷ []
@@ -161,17 +162,30 @@ ready_for (class.Statement may) token = no_else token
 ready_for class.SwitchItem token = no_else token
 ready_for _ token = true
 
-pub record Finishes (r : Option State) : Type 0 where
-  pub items : Trees
-  pub read : IsRead items r
+pub record Finishes (goal : Goal) (r : Option State) : Type 0 where
+  pub parts : Trees
+  pub ended : HasEnded goal parts r
 
--- A part that is read over the stack is the beginning of a file that ends.
-pub record Both (s : Stack) : Type 0 where
+-- The tokens that end what is open on the stack.
+pub record Next (s : Stack) : Type 0 where
   pub first : Terminal
   pub others : List Terminal
   pub is : tail_of s ≡ first ∷ others
   pub ready : ready_for (class_of s) first ≡ true
-  pub goes : (n : Read) (scope : Scope) (at : ℕ) → Finishes (run (Some (state s scope at (Some n))) (tail_of s))
+
+-- whether a declaration alone is wanted: nothing stands behind it
+abbrev pub is_head_item : Class → Bool
+is_head_item class.HeadItem = true
+is_head_item _ = false
+
+-- A part that is read over the stack is the beginning of a whole that ends.
+pub record Both (goal : Goal) (s : Stack) : Type 0 where
+  pub next : is_head_item (class_of s) ≡ false → Next s
+  pub goes : (n : Read) (scope : Scope) (at : ℕ) → Finishes goal (run (Some (state s scope at (Some n))) (tail_of s))
+
+-- Where a node of this class stands, something stands behind, and it is such a token.
+abbrev pub Passes : Class → (Terminal → Bool) → Type 0
+Passes c p = (is_head_item c ≡ false) × ((token : Terminal) → ready_for c token ≡ true → p token ≡ true)
 
 -- tokens join nothing
 
@@ -207,51 +221,12 @@ apart (class.Declarator naming.Hidden l) n token e = ender-apart n token e
 apart (class.Declarator naming.Bare l) n token e = ender-apart n token e
 apart _ n token e = refl
 
--- a node that ends with its part
-
 abbrev pub next_in : Stack → ℕ → Terminal → Read → Scope → Option State
 next_in s at token = λ m sd. settle s m sd at token
 
-pub makes : (h : Head) (k : Kind) (from : ℕ) (parts : Trees) (told : Told) (s : Stack) → ahead h ≡ [] → ((token : Terminal) → ready_for (class_of s) token ≡ true → ready_for (wanted h) token ≡ true) →
-    ((n : Tree) → attached h n ≡ Makes k) → Both s → Both (record { head = h; from = from; parts = parts; told = told } ∷ s)
-unfolding step
-makes h k from parts told s a r q b =
-    let f : Frame = record { head = h; from = from; parts = parts; told = told } in
-    let e : tail_of (f ∷ s) ≡ b.first ∷ b.others = ap (λ xs. xs ++ tail_of s) a ∙ b.is in
-    let g : ready_for (wanted h) b.first ≡ true = r b.first b.ready in
-    record {
-      first = b.first;
-      others = b.others;
-      is = e;
-      ready = g;
-      goes = λ n scope at.
-          subst (λ xs. Finishes (run (Some (state (f ∷ s) scope at (Some n))) xs)) (sym e)
-          (subst (λ j. Finishes (run (joining f s n scope at (attach f s n (add (role h) n.told scope) at b.first (next_in s at b.first) (attached h n.tree)) j) b.others)) (sym (apart (wanted h) n.tree b.first g))
-          (subst (λ x. Finishes (run (attach f s n (add (role h) n.told scope) at b.first (next_in s at b.first) x) b.others)) (sym (q n.tree))
-          (subst (λ xs. Finishes (run (Some (state s (leave k (add (role h) n.told scope)) at (Some (made k from (push parts n.tree) (retold h told n.told) (add (role h) n.told scope))))) xs)) b.is
-          (b.goes (made k from (push parts n.tree) (retold h told n.told) (add (role h) n.told scope)) (leave k (add (role h) n.told scope)) at))));
-    }
-
--- an `if` that has no `else`
 no-else-over : (token : Terminal) → no_else token ≡ true → else_move token ≡ Over kind.If
 no-else-over (t.Key key.Else) e = absurd (cc)
 no-else-over _ e = refl
-
-pub over-if : (from : ℕ) (parts : Trees) (told : Told) (s : Stack) → ((token : Terminal) → ready_for (class_of s) token ≡ true → no_else token ≡ true) → Both s → Both (record { head = head.IfThen; from = from; parts = parts; told = told } ∷ s)
-unfolding step
-over-if from parts told s r b =
-    let f : Frame = record { head = head.IfThen; from = from; parts = parts; told = told } in
-    record {
-      first = b.first;
-      others = b.others;
-      is = b.is;
-      ready = r b.first b.ready;
-      goes = λ n scope at.
-          subst (λ xs. Finishes (run (Some (state (f ∷ s) scope at (Some n))) xs)) (sym b.is)
-          (subst (λ m. Finishes (run (resolve (record { head = head.IfThenEnd; from = from; parts = push parts n.tree; told = told }) s scope at b.first (next_in s at b.first) m) b.others)) (sym (no-else-over b.first (r b.first b.ready)))
-          (subst (λ xs. Finishes (run (Some (state s scope at (Some (made kind.If from (push parts n.tree) told scope)))) xs)) b.is
-          (b.goes (made kind.If from (push parts n.tree) told scope) scope at)));
-    }
 
 -- classes
 
@@ -279,16 +254,16 @@ IsAt context.Local c = ⊤
 IsAt context.Member c = ⊤
 IsAt _ _ = ⊥
 
-pub exp-ready : (c : Class) → IsExp c → (token : Terminal) → ready_for c token ≡ true → closer token ≡ true
-exp-ready (class.Expression l) h token e = e
-exp-ready class.Initialiser h token e = e
-exp-ready _ h token e = absurd h
+pub exp-ready : (c : Class) → IsExp c → Passes c closer
+exp-ready (class.Expression l) h = (refl, λ token e. e)
+exp-ready class.Initialiser h = (refl, λ token e. e)
+exp-ready _ h = absurd h
 
-pub stmt-ready : (c : Class) → IsStmt c → (token : Terminal) → ready_for c token ≡ true → no_else token ≡ true
-stmt-ready class.BlockItem h token e = e
-stmt-ready (class.Statement may) h token e = e
-stmt-ready class.SwitchItem h token e = e
-stmt-ready _ h token e = absurd h
+pub stmt-ready : (c : Class) → IsStmt c → Passes c no_else
+stmt-ready class.BlockItem h = (refl, λ token e. e)
+stmt-ready (class.Statement may) h = (refl, λ token e. e)
+stmt-ready class.SwitchItem h = (refl, λ token e. e)
+stmt-ready _ h = absurd h
 
 rc-closer : (token : Terminal) → is_rc token ≡ true → closer token ≡ true
 rc-closer (t.Mark mark.CloseBrace) e = refl
@@ -298,24 +273,15 @@ rp-ender : (token : Terminal) → is_rp token ≡ true → ender token ≡ true
 rp-ender (t.Mark mark.CloseParen) e = refl
 rp-ender _ e = absurd (cc)
 
-dir-ready : (n : Naming) (c : Class) → IsDir n c → (token : Terminal) → ready_for c token ≡ true → named_ender (pointed n) token ≡ true
-dir-ready n (class.Declarator m l) h token e = pointed-ender n token (ap (λ x. named_ender x token) (sym h) ∙ e)
+pub dir-ready : (n : Naming) (c : Class) → IsDir n c → Passes c (named_ender (pointed n))
+dir-ready n (class.Declarator m l) h = (refl, λ token e. pointed-ender n token (ap (λ x. named_ender x token) (sym h) ∙ e))
   where
     pointed-ender : (n : Naming) (token : Terminal) → named_ender n token ≡ true → named_ender (pointed n) token ≡ true
     pointed-ender naming.Named token e = e
     pointed-ender naming.Either token e = e
     pointed-ender naming.Hidden token e = e
     pointed-ender naming.Bare token e = e
-dir-ready n _ h token e = absurd h
-
--- heads of declarations
-
-pub over-goes : (f : Frame) (s : Stack) (scope : Scope) (at : ℕ) (k : Kind) (m : Move) (b : Both s) → m ≡ Over k → Finishes (run (resolve f s scope at b.first (next_in s at b.first) m) b.others)
-unfolding step
-over-goes f s scope at k m b e =
-    subst (λ x. Finishes (run (resolve f s scope at b.first (next_in s at b.first) x) b.others)) (sym e)
-    (subst (λ xs. Finishes (run (Some (state s (leave k scope) at (Some (made k f.from f.parts f.told scope)))) xs)) b.is
-    (b.goes (made k f.from f.parts f.told scope) (leave k scope) at))
+dir-ready n _ h = absurd h
 
 typed : (c : Context) (words : List SpecWord) (token : Terminal) → has_type words ≡ true → ends_spec c words token ≡ behind c words token
 typed c words token e = ap (λ b. behind_type b c words token) e
@@ -329,13 +295,13 @@ type-over : (scope : Scope) (words : List SpecWord) (token : Terminal) → has_t
 type-over scope words (t.Mark mark.CloseParen) e g = typed context.Type words rp e
 type-over scope words _ e g = absurd (cc)
 
-at-param : (c : Class) → IsAt context.Param c → (token : Terminal) → ready_for c token ≡ true → ender token ≡ true
-at-param class.Param h token e = e
-at-param _ h token e = absurd h
+at-param : (c : Class) → IsAt context.Param c → Passes c ender
+at-param class.Param h = (refl, λ token e. e)
+at-param _ h = absurd h
 
-at-type : (c : Class) → IsAt context.Type c → (token : Terminal) → ready_for c token ≡ true → is_rp token ≡ true
-at-type class.Type h token e = e
-at-type _ h token e = absurd h
+at-type : (c : Class) → IsAt context.Type c → Passes c is_rp
+at-type class.Type h = (refl, λ token e. e)
+at-type _ h = absurd h
 
 -- Heads that go on as a head of declaration with these words does.
 pub record Speaks (h : Head) (c : Context) (words : List SpecWord) : Type 0 where
@@ -361,42 +327,6 @@ ender-by P a b _ e = absurd (cc)
 pub rp-by : (P : Terminal → Type 0) → P rp → (token : Terminal) → is_rp token ≡ true → P token
 rp-by P b (t.Mark mark.CloseParen) e = b
 rp-by P b _ e = absurd (cc)
-
-pub spec-ends : (h : Head) (c : Context) (words : List SpecWord) (from : ℕ) (parts : Trees) (told : Told) (s : Stack) (scope : Scope) (at : ℕ) → Speaks h c words → has_type words ≡ true →
-    IsAt c (class_of s) → Both s → Finishes (run (Some (state (record { head = h; from = from; parts = parts; told = told } ∷ s) scope at None)) (close c ++ tail_of s))
-unfolding step
-spec-ends h c words from parts told s scope at k e a b = by_context c a k
-  where
-    F : Frame
-    F = record { head = h; from = from; parts = parts; told = told }
-
-    fed-by : (token : Terminal) (ts : List Terminal) → decide F s scope at token h ≡ state (F ∷ s) scope at None → Finishes (run (resolve F s scope at token (next_in s at token) (move scope h token)) ts) →
-        Finishes (run (Some (state (F ∷ s) scope at None)) (token ∷ ts))
-    fed-by token ts q g = subst (λ st. Finishes (run (fed st token) ts)) (sym q) g
-
-    by_context : (c : Context) → IsAt c (class_of s) → Speaks h c words → Finishes (run (Some (state (F ∷ s) scope at None)) (close c ++ tail_of s))
-    by_context context.File a k =
-        fed-by sc (tail_of s) (k.still F s scope at sc)
-        (subst (λ m. Finishes (run (resolve F s scope at sc (next_in s at sc) m) (tail_of s))) (sym (k.semicolon scope ∙ typed context.File words sc e)) (b.goes _ _ _))
-    by_context context.Head a k =
-        fed-by sc (tail_of s) (k.still F s scope at sc)
-        (subst (λ m. Finishes (run (resolve F s scope at sc (next_in s at sc) m) (tail_of s))) (sym (k.semicolon scope ∙ typed context.Head words sc e)) (b.goes _ _ _))
-    by_context context.Local a k =
-        fed-by sc (tail_of s) (k.still F s scope at sc)
-        (subst (λ m. Finishes (run (resolve F s scope at sc (next_in s at sc) m) (tail_of s))) (sym (k.semicolon scope ∙ typed context.Local words sc e)) (b.goes _ _ _))
-    by_context context.Member a k =
-        fed-by sc (tail_of s) (k.still F s scope at sc)
-        (subst (λ m. Finishes (run (resolve F s scope at sc (next_in s at sc) m) (tail_of s))) (sym (k.semicolon scope ∙ typed context.Member words sc e)) (b.goes _ _ _))
-    by_context context.Param a k =
-        subst (λ xs. Finishes (run (Some (state (F ∷ s) scope at None)) xs)) (sym b.is)
-        (fed-by b.first b.others (k.still F s scope at b.first)
-        (over-goes F s scope at (kind.Param (spec words)) (move scope h b.first) b
-        (ender-by (λ token. move scope h token ≡ Over (kind.Param (spec words))) (k.comma scope ∙ param-over scope words cm e refl) (k.paren scope ∙ param-over scope words rp e refl) b.first (at-param (class_of s) a b.first b.ready))))
-    by_context context.Type a k =
-        subst (λ xs. Finishes (run (Some (state (F ∷ s) scope at None)) xs)) (sym b.is)
-        (fed-by b.first b.others (k.still F s scope at b.first)
-        (over-goes F s scope at (kind.NamedType (spec words)) (move scope h b.first) b
-        (rp-by (λ token. move scope h token ≡ Over (kind.NamedType (spec words))) (k.paren scope ∙ type-over scope words rp e refl) b.first (at-type (class_of s) a b.first b.ready))))
 
 -- What an open node that wants a part asks of the class where it stands.
 abbrev pub Need : Class → Head → Type 0
@@ -428,6 +358,7 @@ Need c (head.TypeOf words) = c ≡ class.Type
 Need c (head.Stars n volatiles) = IsDir n c
 Need c (head.EntryOf place equals) = c ≡ class.Entry
 Need c head.EntryIndex = c ≡ class.Entry
+Need c (head.FunctionBody words) = c ≡ class.FileItem
 Need c _ = ⊤
 
 named-rp : (n : Naming) → named_ender n rp ≡ true
@@ -436,102 +367,178 @@ named-rp naming.Either = refl
 named-rp naming.Hidden = refl
 named-rp naming.Bare = refl
 
-constant-closer : (c : Class) → c ≡ class.Constant → (token : Terminal) → ready_for c token ≡ true → closer token ≡ true
-constant-closer c d token e = rc-closer token (ap (λ x. ready_for x token) (sym d) ∙ e)
+constant-closer : (c : Class) → c ≡ class.Constant → Passes c closer
+constant-closer c d = (ap is_head_item d, λ token e. rc-closer token (ap (λ x. ready_for x token) (sym d) ∙ e))
 
-pub entry-closer : (c : Class) → c ≡ class.Entry → (token : Terminal) → ready_for c token ≡ true → closer token ≡ true
-entry-closer c d token e = rc-closer token (ap (λ x. ready_for x token) (sym d) ∙ e)
+pub entry-closer : (c : Class) → c ≡ class.Entry → Passes c closer
+entry-closer c d = (ap is_head_item d, λ token e. rc-closer token (ap (λ x. ready_for x token) (sym d) ∙ e))
 
-param-ender : (c : Class) → c ≡ class.Param → (token : Terminal) → ready_for c token ≡ true → ender token ≡ true
-param-ender c d token e = ap (λ x. ready_for x token) (sym d) ∙ e
+param-ender : (c : Class) → c ≡ class.Param → Passes c ender
+param-ender c d = (ap is_head_item d, λ token e. ap (λ x. ready_for x token) (sym d) ∙ e)
 
-type-ender : (c : Class) → c ≡ class.Type → (token : Terminal) → ready_for c token ≡ true → ender token ≡ true
-type-ender c d token e = rp-ender token (ap (λ x. ready_for x token) (sym d) ∙ e)
+type-ender : (c : Class) → c ≡ class.Type → Passes c ender
+type-ender c d = (ap is_head_item d, λ token e. rp-ender token (ap (λ x. ready_for x token) (sym d) ∙ e))
 
--- Behind a part each open node comes to its end.
-pub grow : (h : Head) (from : ℕ) (parts : Trees) (told : Told) (s : Stack) → is_after (attached h dummy) ≡ true → up h ≡ true → Need (class_of s) h → Both s →
-    Both (record { head = h; from = from; parts = parts; told = told } ∷ s)
-unfolding step
-grow head.Group from parts told s w u d b = record { first = rp; others = tail_of s; is = refl; ready = refl; goes = λ n scope at. b.goes _ _ _ }
-grow head.CastType from parts told s w u d b = record { first = rp; others = zero_ ∷ tail_of s; is = refl; ready = refl; goes = λ n scope at. (makes head.CastOf kind.Cast _ _ _ s refl (exp-ready (class_of s) d) (λ m. refl) b).goes _ _ _ }
-grow head.CastOf from parts told s w u d b = makes head.CastOf kind.Cast from parts told s refl (exp-ready (class_of s) d) (λ m. refl) b
-grow (head.UnaryOf op) from parts told s w u d b = makes (head.UnaryOf op) (kind.Unary op) from parts told s refl (exp-ready (class_of s) d) (λ m. refl) b
-grow (head.PreOf minus) from parts told s w u d b = makes (head.PreOf minus) (kind.Pre minus) from parts told s refl (exp-ready (class_of s) d) (λ m. refl) b
-grow head.SizeofOf from parts told s w u d b = makes head.SizeofOf kind.SizeofValue from parts told s refl (exp-ready (class_of s) d) (λ m. refl) b
-grow (head.BinaryOf op) from parts told s w u d b = makes (head.BinaryOf op) (kind.Binary op) from parts told s refl (exp-ready (class_of s) d) (λ m. refl) b
-grow (head.AssignOf op) from parts told s w u d b = makes (head.AssignOf op) (kind.Assign op) from parts told s refl (exp-ready (class_of s) d) (λ m. refl) b
-grow head.CommaOf from parts told s w u d b = makes head.CommaOf kind.Comma from parts told s refl (exp-ready (class_of s) d) (λ m. refl) b
-grow head.ChooseNo from parts told s w u d b = makes head.ChooseNo kind.Choose from parts told s refl (exp-ready (class_of s) d) (λ m. refl) b
-grow head.SizeofType from parts told s w u d b = record { first = rp; others = tail_of s; is = refl; ready = refl; goes = λ n scope at. b.goes _ _ _ }
-grow head.ChooseYes from parts told s w u d b = record { first = co; others = zero_ ∷ tail_of s; is = refl; ready = refl; goes = λ n scope at. (makes head.ChooseNo kind.Choose _ _ _ s refl (exp-ready (class_of s) d) (λ m. refl) b).goes _ _ _ }
-grow head.IndexOf from parts told s w u d b = record { first = rb; others = tail_of s; is = refl; ready = refl; goes = λ n scope at. b.goes _ _ _ }
-grow head.CallStart from parts told s w u d b = record { first = rp; others = tail_of s; is = refl; ready = refl; goes = λ n scope at. b.goes _ _ _ }
-grow head.CallMore from parts told s w u d b = record { first = rp; others = tail_of s; is = refl; ready = refl; goes = λ n scope at. b.goes _ _ _ }
-grow head.BlockItems from parts told s w u d b = record { first = rc; others = tail_of s; is = refl; ready = refl; goes = λ n scope at. b.goes _ _ _ }
-grow head.ExpressionOf from parts told s w u d b = record { first = sc; others = tail_of s; is = refl; ready = refl; goes = λ n scope at. b.goes _ _ _ }
-grow head.SwitchItems from parts told s w u d b = record { first = rc; others = tail_of s; is = refl; ready = refl; goes = λ n scope at. b.goes _ _ _ }
-grow head.CaseOf from parts told s w u d b = record { first = co; others = tail_of s; is = refl; ready = refl; goes = λ n scope at. b.goes _ _ _ }
-grow head.ReturnOf from parts told s w u d b = record { first = sc; others = tail_of s; is = refl; ready = refl; goes = λ n scope at. b.goes _ _ _ }
-grow (head.Declarators c words inits) from parts told s w u d b = record { first = sc; others = tail_of s; is = refl; ready = refl; goes = λ n scope at. b.goes _ _ _ }
-grow (head.Initialised c words inits) from parts told s w u d b = record { first = sc; others = tail_of s; is = refl; ready = refl; goes = λ n scope at. b.goes _ _ _ }
-grow (head.MemberDeclarators words) from parts told s w u d b = record { first = sc; others = tail_of s; is = refl; ready = refl; goes = λ n scope at. b.goes _ _ _ }
-grow (head.BracketsStart inner) from parts told s w u d b = record { first = rb; others = tail_of s; is = refl; ready = refl; goes = λ n scope at. b.goes _ _ _ }
-grow (head.ParamsMore inner) from parts told s w u d b = record { first = rp; others = tail_of s; is = refl; ready = refl; goes = λ n scope at. b.goes _ _ _ }
-grow head.ListStart from parts told s w u d b = record { first = rc; others = tail_of s; is = refl; ready = refl; goes = λ n scope at. b.goes _ _ _ }
-grow head.ListComma from parts told s w u d b = record { first = rc; others = tail_of s; is = refl; ready = refl; goes = λ n scope at. b.goes _ _ _ }
-grow (head.DeclGroup n) from parts told s w u d b = record { first = rp; others = tail_of s; is = refl; ready = named-rp (grouped n); goes = λ m scope at. b.goes _ _ _ }
-grow head.IfTest from parts told s w u d b = record { first = rp; others = sc ∷ tail_of s; is = refl; ready = refl; goes = λ n scope at. (over-if _ _ _ s (stmt-ready (class_of s) d) b).goes _ _ _ }
-grow head.IfThen from parts told s w u d b = over-if from parts told s (stmt-ready (class_of s) d) b
-grow head.IfElse from parts told s w u d b = makes head.IfElse kind.If from parts told s refl (stmt-ready (class_of s) d) (λ m. refl) b
-grow head.WhileTest from parts told s w u d b = record { first = rp; others = sc ∷ tail_of s; is = refl; ready = refl; goes = λ n scope at. (makes head.WhileBody kind.While _ _ _ s refl (stmt-ready (class_of s) d) (λ m. refl) b).goes _ _ _ }
-grow head.WhileBody from parts told s w u d b = makes head.WhileBody kind.While from parts told s refl (stmt-ready (class_of s) d) (λ m. refl) b
-grow head.DoBody from parts told s w u d b = record { first = while_; others = lp ∷ zero_ ∷ rp ∷ sc ∷ tail_of s; is = refl; ready = refl; goes = λ n scope at. b.goes _ _ _ }
-grow head.DoTest from parts told s w u d b = record { first = rp; others = sc ∷ tail_of s; is = refl; ready = refl; goes = λ n scope at. b.goes _ _ _ }
-grow head.ForFirst from parts told s w u d b = record { first = sc; others = sc ∷ rp ∷ sc ∷ tail_of s; is = refl; ready = refl; goes = λ n scope at. (makes (head.ForBody true false false) (kind.For true false false) _ _ _ s refl (stmt-ready (class_of s) d) (λ m. refl) b).goes _ _ _ }
-grow (head.ForTest first) from parts told s w u d b = record { first = sc; others = rp ∷ sc ∷ tail_of s; is = refl; ready = refl; goes = λ n scope at. (makes (head.ForBody first true false) (kind.For first true false) _ _ _ s refl (stmt-ready (class_of s) d) (λ m. refl) b).goes _ _ _ }
-grow (head.ForStep first test) from parts told s w u d b = record { first = rp; others = sc ∷ tail_of s; is = refl; ready = refl; goes = λ n scope at. (makes (head.ForBody first test true) (kind.For first test true) _ _ _ s refl (stmt-ready (class_of s) d) (λ m. refl) b).goes _ _ _ }
-grow (head.ForBody first test step) from parts told s w u d b = makes (head.ForBody first test step) (kind.For first test step) from parts told s refl (stmt-ready (class_of s) d) (λ m. refl) b
-grow head.SwitchValue from parts told s w u d b = record { first = rp; others = lc ∷ rc ∷ tail_of s; is = refl; ready = refl; goes = λ n scope at. b.goes _ _ _ }
-grow (head.Members c words is_union name k) from parts told s w u d b = record {
-  first = rc;
-  others = close c ++ tail_of s;
-  is = refl;
-  ready = refl;
-  goes = λ n scope at. spec-ends (head.Spec c (words ++ word.Tag is_union name (Some (suc k)) ∷ [])) c (words ++ word.Tag is_union name (Some (suc k)) ∷ []) _ _ _ s _ _
-      (speaks c (words ++ word.Tag is_union name (Some (suc k)) ∷ [])) (has_type-behind words (word.Tag is_union name (Some (suc k))) refl) d b;
-}
-grow (head.Constants c words name k) from parts told s w u d b = record {
-  first = rc;
-  others = close c ++ tail_of s;
-  is = refl;
-  ready = refl;
-  goes = λ n scope at. spec-ends (head.Spec c (words ++ word.Enum name (Some (suc k)) false ∷ [])) c (words ++ word.Enum name (Some (suc k)) false ∷ []) _ _ _ s _ _
-      (speaks c (words ++ word.Enum name (Some (suc k)) false ∷ [])) (has_type-behind words (word.Enum name (Some (suc k)) false) refl) d b;
-}
-grow (head.ConstantsComma c words name k) from parts told s w u d b = record {
-  first = rc;
-  others = close c ++ tail_of s;
-  is = refl;
-  ready = refl;
-  goes = λ n scope at. spec-ends (head.Spec c (words ++ word.Enum name (Some (suc k)) false ∷ [])) c (words ++ word.Enum name (Some (suc k)) false ∷ []) _ _ _ s _ _
-      (speaks c (words ++ word.Enum name (Some (suc k)) false ∷ [])) (has_type-behind words (word.Enum name (Some (suc k)) false) refl) d b;
-}
-grow (head.ConstantOf name) from parts told s w u d b = makes (head.ConstantOf name) (kind.EnumConst name true) from parts told s refl (constant-closer (class_of s) d) (λ m. refl) b
-grow (head.FunctionBody words) from parts told s w u d b = makes (head.FunctionBody words) (kind.Function (spec words)) from parts told s refl (λ token e. refl) (λ m. refl) b
-grow (head.ParamOf words) from parts told s w u d b = makes (head.ParamOf words) (kind.Param (spec words)) from parts told s refl (param-ender (class_of s) d) (λ m. refl) b
-grow (head.TypeOf words) from parts told s w u d b = makes (head.TypeOf words) (kind.NamedType (spec words)) from parts told s refl (type-ender (class_of s) d) (λ m. refl) b
-grow (head.Stars n volatiles) from parts told s w u d b = makes (head.Stars n volatiles) (kind.Star volatiles) from parts told s refl (dir-ready n (class_of s) d) (λ m. refl) b
-grow (head.EntryOf place equals) from parts told s w u d b = makes (head.EntryOf place equals) (kind.Entry place equals) from parts told s refl (entry-closer (class_of s) d) (λ m. refl) b
-grow head.EntryIndex from parts told s w u d b = record { first = rb; others = zero_ ∷ tail_of s; is = refl; ready = refl; goes = λ n scope at. (makes (head.EntryOf by.Index false) (kind.Entry by.Index false) _ _ _ s refl (entry-closer (class_of s) d) (λ m. refl) b).goes _ _ _ }
-grow (head.ParamsStart inner) from parts told s w u d b = record { first = cm; others = int_ ∷ rp ∷ tail_of s; is = refl; ready = refl; goes = λ n scope at. first-goes (only_void n.tree) n scope at refl }
-  where
-    first-goes : (v : Bool) (n : Read) (scope : Scope) (at : ℕ) → only_void n.tree ≡ v →
-        Finishes (run (Some (state (record { head = head.ParamsStart inner; from = from; parts = parts; told = told } ∷ s) scope at (Some n))) (cm ∷ int_ ∷ rp ∷ tail_of s))
-    first-goes true n scope at e =
-        subst (λ a. Finishes (run (attach (record { head = head.ParamsStart inner; from = from; parts = parts; told = told }) s n scope at cm (next_in s at cm) (first_param a inner)) (int_ ∷ rp ∷ tail_of s))) (sym e) (b.goes _ _ _)
-    first-goes false n scope at e =
-        subst (λ a. Finishes (run (attach (record { head = head.ParamsStart inner; from = from; parts = parts; told = told }) s n scope at cm (next_in s at cm) (first_param a inner)) (int_ ∷ rp ∷ tail_of s))) (sym e) (b.goes _ _ _)
-grow head.FileItems from parts told s w u d b = absurd (false≢true u)
-grow head.GoalExpression from parts told s w u d b = absurd (false≢true u)
-grow head.GoalHead from parts told s w u d b = absurd (false≢true u)
-grow _ from parts told s w u d b = absurd (false≢true w)
+module _ (goal : Goal) where
+  -- a node that ends with its part
+
+  pub makes : (h : Head) (k : Kind) (from : ℕ) (parts : Trees) (told : Told) (s : Stack) → ahead h ≡ [] → Passes (class_of s) (ready_for (wanted h)) →
+      ((n : Tree) → attached h n ≡ Makes k) → Both goal s → Both goal (record { head = h; from = from; parts = parts; told = told } ∷ s)
+  unfolding step
+  makes h k from parts told s a r q b =
+      let f : Frame = record { head = h; from = from; parts = parts; told = told } in
+      let nx : Next s = b.next r.0 in
+      let e : tail_of (f ∷ s) ≡ nx.first ∷ nx.others = ap (λ xs. xs ++ tail_of s) a ∙ nx.is in
+      let g : ready_for (wanted h) nx.first ≡ true = r.1 nx.first nx.ready in
+      record {
+        next = λ y. record { first = nx.first; others = nx.others; is = e; ready = g };
+        goes = λ n scope at.
+            subst (λ xs. Finishes goal (run (Some (state (f ∷ s) scope at (Some n))) xs)) (sym e)
+            (subst (λ j. Finishes goal (run (joining f s n scope at (attach f s n (add (role h) n.told scope) at nx.first (next_in s at nx.first) (attached h n.tree)) j) nx.others)) (sym (apart (wanted h) n.tree nx.first g))
+            (subst (λ x. Finishes goal (run (attach f s n (add (role h) n.told scope) at nx.first (next_in s at nx.first) x) nx.others)) (sym (q n.tree))
+            (subst (λ xs. Finishes goal (run (Some (state s (leave k (add (role h) n.told scope)) at (Some (made k from (push parts n.tree) (retold h told n.told) (add (role h) n.told scope))))) xs)) nx.is
+            (b.goes (made k from (push parts n.tree) (retold h told n.told) (add (role h) n.told scope)) (leave k (add (role h) n.told scope)) at))));
+      }
+
+  -- an `if` that has no `else`
+  pub over-if : (from : ℕ) (parts : Trees) (told : Told) (s : Stack) → Passes (class_of s) no_else → Both goal s → Both goal (record { head = head.IfThen; from = from; parts = parts; told = told } ∷ s)
+  unfolding step
+  over-if from parts told s r b =
+      let f : Frame = record { head = head.IfThen; from = from; parts = parts; told = told } in
+      let x : Next s = b.next r.0 in
+      record {
+        next = λ y. record { first = x.first; others = x.others; is = x.is; ready = r.1 x.first x.ready };
+        goes = λ n scope at.
+            subst (λ xs. Finishes goal (run (Some (state (f ∷ s) scope at (Some n))) xs)) (sym x.is)
+            (subst (λ m. Finishes goal (run (resolve (record { head = head.IfThenEnd; from = from; parts = push parts n.tree; told = told }) s scope at x.first (next_in s at x.first) m) x.others)) (sym (no-else-over x.first (r.1 x.first x.ready)))
+            (subst (λ xs. Finishes goal (run (Some (state s scope at (Some (made kind.If from (push parts n.tree) told scope)))) xs)) x.is
+            (b.goes (made kind.If from (push parts n.tree) told scope) scope at)));
+      }
+
+  -- heads of declarations
+
+  pub over-goes : (f : Frame) (s : Stack) (scope : Scope) (at : ℕ) (k : Kind) (m : Move) (b : Both goal s) (x : Next s) → m ≡ Over k → Finishes goal (run (resolve f s scope at x.first (next_in s at x.first) m) x.others)
+  unfolding step
+  over-goes f s scope at k m b x e =
+      subst (λ y. Finishes goal (run (resolve f s scope at x.first (next_in s at x.first) y) x.others)) (sym e)
+      (subst (λ xs. Finishes goal (run (Some (state s (leave k scope) at (Some (made k f.from f.parts f.told scope)))) xs)) x.is
+      (b.goes (made k f.from f.parts f.told scope) (leave k scope) at))
+
+  pub spec-ends : (h : Head) (c : Context) (words : List SpecWord) (from : ℕ) (parts : Trees) (told : Told) (s : Stack) (scope : Scope) (at : ℕ) → Speaks h c words → has_type words ≡ true →
+      IsAt c (class_of s) → Both goal s → Finishes goal (run (Some (state (record { head = h; from = from; parts = parts; told = told } ∷ s) scope at None)) (close c ++ tail_of s))
+  unfolding step
+  spec-ends h c words from parts told s scope at k e a b = by_context c a k
+    where
+      F : Frame
+      F = record { head = h; from = from; parts = parts; told = told }
+
+      fed-by : (token : Terminal) (ts : List Terminal) → decide F s scope at token h ≡ state (F ∷ s) scope at None → Finishes goal (run (resolve F s scope at token (next_in s at token) (move scope h token)) ts) →
+          Finishes goal (run (Some (state (F ∷ s) scope at None)) (token ∷ ts))
+      fed-by token ts q g = subst (λ st. Finishes goal (run (fed st token) ts)) (sym q) g
+
+      by_context : (c : Context) → IsAt c (class_of s) → Speaks h c words → Finishes goal (run (Some (state (F ∷ s) scope at None)) (close c ++ tail_of s))
+      by_context context.File a k =
+          fed-by sc (tail_of s) (k.still F s scope at sc)
+          (subst (λ m. Finishes goal (run (resolve F s scope at sc (next_in s at sc) m) (tail_of s))) (sym (k.semicolon scope ∙ typed context.File words sc e)) (b.goes _ _ _))
+      by_context context.Head a k =
+          fed-by sc (tail_of s) (k.still F s scope at sc)
+          (subst (λ m. Finishes goal (run (resolve F s scope at sc (next_in s at sc) m) (tail_of s))) (sym (k.semicolon scope ∙ typed context.Head words sc e)) (b.goes _ _ _))
+      by_context context.Local a k =
+          fed-by sc (tail_of s) (k.still F s scope at sc)
+          (subst (λ m. Finishes goal (run (resolve F s scope at sc (next_in s at sc) m) (tail_of s))) (sym (k.semicolon scope ∙ typed context.Local words sc e)) (b.goes _ _ _))
+      by_context context.Member a k =
+          fed-by sc (tail_of s) (k.still F s scope at sc)
+          (subst (λ m. Finishes goal (run (resolve F s scope at sc (next_in s at sc) m) (tail_of s))) (sym (k.semicolon scope ∙ typed context.Member words sc e)) (b.goes _ _ _))
+      by_context context.Param a k =
+          let q = at-param (class_of s) a in
+          let x : Next s = b.next q.0 in
+          subst (λ xs. Finishes goal (run (Some (state (F ∷ s) scope at None)) xs)) (sym x.is)
+          (fed-by x.first x.others (k.still F s scope at x.first)
+          (over-goes F s scope at (kind.Param (spec words)) (move scope h x.first) b x
+          (ender-by (λ token. move scope h token ≡ Over (kind.Param (spec words))) (k.comma scope ∙ param-over scope words cm e refl) (k.paren scope ∙ param-over scope words rp e refl) x.first (q.1 x.first x.ready))))
+      by_context context.Type a k =
+          let q = at-type (class_of s) a in
+          let x : Next s = b.next q.0 in
+          subst (λ xs. Finishes goal (run (Some (state (F ∷ s) scope at None)) xs)) (sym x.is)
+          (fed-by x.first x.others (k.still F s scope at x.first)
+          (over-goes F s scope at (kind.NamedType (spec words)) (move scope h x.first) b x
+          (rp-by (λ token. move scope h token ≡ Over (kind.NamedType (spec words))) (k.paren scope ∙ type-over scope words rp e refl) x.first (q.1 x.first x.ready))))
+
+  -- Behind a part each open node comes to its end.
+  pub grow : (h : Head) (from : ℕ) (parts : Trees) (told : Told) (s : Stack) → is_after (attached h dummy) ≡ true → up h ≡ true → Need (class_of s) h → Both goal s →
+      Both goal (record { head = h; from = from; parts = parts; told = told } ∷ s)
+  unfolding step
+  grow head.Group from parts told s w u d b = record { next = λ y. record { first = rp; others = tail_of s; is = refl; ready = refl }; goes = λ n scope at. b.goes _ _ _ }
+  grow head.CastType from parts told s w u d b = record { next = λ y. record { first = rp; others = zero_ ∷ tail_of s; is = refl; ready = refl }; goes = λ n scope at. (makes head.CastOf kind.Cast _ _ _ s refl (exp-ready (class_of s) d) (λ m. refl) b).goes _ _ _ }
+  grow head.CastOf from parts told s w u d b = makes head.CastOf kind.Cast from parts told s refl (exp-ready (class_of s) d) (λ m. refl) b
+  grow (head.UnaryOf op) from parts told s w u d b = makes (head.UnaryOf op) (kind.Unary op) from parts told s refl (exp-ready (class_of s) d) (λ m. refl) b
+  grow (head.PreOf minus) from parts told s w u d b = makes (head.PreOf minus) (kind.Pre minus) from parts told s refl (exp-ready (class_of s) d) (λ m. refl) b
+  grow head.SizeofOf from parts told s w u d b = makes head.SizeofOf kind.SizeofValue from parts told s refl (exp-ready (class_of s) d) (λ m. refl) b
+  grow (head.BinaryOf op) from parts told s w u d b = makes (head.BinaryOf op) (kind.Binary op) from parts told s refl (exp-ready (class_of s) d) (λ m. refl) b
+  grow (head.AssignOf op) from parts told s w u d b = makes (head.AssignOf op) (kind.Assign op) from parts told s refl (exp-ready (class_of s) d) (λ m. refl) b
+  grow head.CommaOf from parts told s w u d b = makes head.CommaOf kind.Comma from parts told s refl (exp-ready (class_of s) d) (λ m. refl) b
+  grow head.ChooseNo from parts told s w u d b = makes head.ChooseNo kind.Choose from parts told s refl (exp-ready (class_of s) d) (λ m. refl) b
+  grow head.SizeofType from parts told s w u d b = record { next = λ y. record { first = rp; others = tail_of s; is = refl; ready = refl }; goes = λ n scope at. b.goes _ _ _ }
+  grow head.ChooseYes from parts told s w u d b = record { next = λ y. record { first = co; others = zero_ ∷ tail_of s; is = refl; ready = refl }; goes = λ n scope at. (makes head.ChooseNo kind.Choose _ _ _ s refl (exp-ready (class_of s) d) (λ m. refl) b).goes _ _ _ }
+  grow head.IndexOf from parts told s w u d b = record { next = λ y. record { first = rb; others = tail_of s; is = refl; ready = refl }; goes = λ n scope at. b.goes _ _ _ }
+  grow head.CallStart from parts told s w u d b = record { next = λ y. record { first = rp; others = tail_of s; is = refl; ready = refl }; goes = λ n scope at. b.goes _ _ _ }
+  grow head.CallMore from parts told s w u d b = record { next = λ y. record { first = rp; others = tail_of s; is = refl; ready = refl }; goes = λ n scope at. b.goes _ _ _ }
+  grow head.BlockItems from parts told s w u d b = record { next = λ y. record { first = rc; others = tail_of s; is = refl; ready = refl }; goes = λ n scope at. b.goes _ _ _ }
+  grow head.ExpressionOf from parts told s w u d b = record { next = λ y. record { first = sc; others = tail_of s; is = refl; ready = refl }; goes = λ n scope at. b.goes _ _ _ }
+  grow head.SwitchItems from parts told s w u d b = record { next = λ y. record { first = rc; others = tail_of s; is = refl; ready = refl }; goes = λ n scope at. b.goes _ _ _ }
+  grow head.CaseOf from parts told s w u d b = record { next = λ y. record { first = co; others = tail_of s; is = refl; ready = refl }; goes = λ n scope at. b.goes _ _ _ }
+  grow head.ReturnOf from parts told s w u d b = record { next = λ y. record { first = sc; others = tail_of s; is = refl; ready = refl }; goes = λ n scope at. b.goes _ _ _ }
+  grow (head.Declarators c words inits) from parts told s w u d b = record { next = λ y. record { first = sc; others = tail_of s; is = refl; ready = refl }; goes = λ n scope at. b.goes _ _ _ }
+  grow (head.Initialised c words inits) from parts told s w u d b = record { next = λ y. record { first = sc; others = tail_of s; is = refl; ready = refl }; goes = λ n scope at. b.goes _ _ _ }
+  grow (head.MemberDeclarators words) from parts told s w u d b = record { next = λ y. record { first = sc; others = tail_of s; is = refl; ready = refl }; goes = λ n scope at. b.goes _ _ _ }
+  grow (head.BracketsStart inner) from parts told s w u d b = record { next = λ y. record { first = rb; others = tail_of s; is = refl; ready = refl }; goes = λ n scope at. b.goes _ _ _ }
+  grow (head.ParamsMore inner) from parts told s w u d b = record { next = λ y. record { first = rp; others = tail_of s; is = refl; ready = refl }; goes = λ n scope at. b.goes _ _ _ }
+  grow head.ListStart from parts told s w u d b = record { next = λ y. record { first = rc; others = tail_of s; is = refl; ready = refl }; goes = λ n scope at. b.goes _ _ _ }
+  grow head.ListComma from parts told s w u d b = record { next = λ y. record { first = rc; others = tail_of s; is = refl; ready = refl }; goes = λ n scope at. b.goes _ _ _ }
+  grow (head.DeclGroup n) from parts told s w u d b = record { next = λ y. record { first = rp; others = tail_of s; is = refl; ready = named-rp (grouped n) }; goes = λ m scope at. b.goes _ _ _ }
+  grow head.IfTest from parts told s w u d b = record { next = λ y. record { first = rp; others = sc ∷ tail_of s; is = refl; ready = refl }; goes = λ n scope at. (over-if _ _ _ s (stmt-ready (class_of s) d) b).goes _ _ _ }
+  grow head.IfThen from parts told s w u d b = over-if from parts told s (stmt-ready (class_of s) d) b
+  grow head.IfElse from parts told s w u d b = makes head.IfElse kind.If from parts told s refl (stmt-ready (class_of s) d) (λ m. refl) b
+  grow head.WhileTest from parts told s w u d b = record { next = λ y. record { first = rp; others = sc ∷ tail_of s; is = refl; ready = refl }; goes = λ n scope at. (makes head.WhileBody kind.While _ _ _ s refl (stmt-ready (class_of s) d) (λ m. refl) b).goes _ _ _ }
+  grow head.WhileBody from parts told s w u d b = makes head.WhileBody kind.While from parts told s refl (stmt-ready (class_of s) d) (λ m. refl) b
+  grow head.DoBody from parts told s w u d b = record { next = λ y. record { first = while_; others = lp ∷ zero_ ∷ rp ∷ sc ∷ tail_of s; is = refl; ready = refl }; goes = λ n scope at. b.goes _ _ _ }
+  grow head.DoTest from parts told s w u d b = record { next = λ y. record { first = rp; others = sc ∷ tail_of s; is = refl; ready = refl }; goes = λ n scope at. b.goes _ _ _ }
+  grow head.ForFirst from parts told s w u d b = record { next = λ y. record { first = sc; others = sc ∷ rp ∷ sc ∷ tail_of s; is = refl; ready = refl }; goes = λ n scope at. (makes (head.ForBody true false false) (kind.For true false false) _ _ _ s refl (stmt-ready (class_of s) d) (λ m. refl) b).goes _ _ _ }
+  grow (head.ForTest first) from parts told s w u d b = record { next = λ y. record { first = sc; others = rp ∷ sc ∷ tail_of s; is = refl; ready = refl }; goes = λ n scope at. (makes (head.ForBody first true false) (kind.For first true false) _ _ _ s refl (stmt-ready (class_of s) d) (λ m. refl) b).goes _ _ _ }
+  grow (head.ForStep first test) from parts told s w u d b = record { next = λ y. record { first = rp; others = sc ∷ tail_of s; is = refl; ready = refl }; goes = λ n scope at. (makes (head.ForBody first test true) (kind.For first test true) _ _ _ s refl (stmt-ready (class_of s) d) (λ m. refl) b).goes _ _ _ }
+  grow (head.ForBody first test step) from parts told s w u d b = makes (head.ForBody first test step) (kind.For first test step) from parts told s refl (stmt-ready (class_of s) d) (λ m. refl) b
+  grow head.SwitchValue from parts told s w u d b = record { next = λ y. record { first = rp; others = lc ∷ rc ∷ tail_of s; is = refl; ready = refl }; goes = λ n scope at. b.goes _ _ _ }
+  grow (head.Members c words is_union name k) from parts told s w u d b = record {
+    next = λ y. record { first = rc; others = close c ++ tail_of s; is = refl; ready = refl };
+    goes = λ n scope at. spec-ends (head.Spec c (words ++ word.Tag is_union name (Some (suc k)) ∷ [])) c (words ++ word.Tag is_union name (Some (suc k)) ∷ []) _ _ _ s _ _
+        (speaks c (words ++ word.Tag is_union name (Some (suc k)) ∷ [])) (has_type-behind words (word.Tag is_union name (Some (suc k))) refl) d b;
+  }
+  grow (head.Constants c words name k) from parts told s w u d b = record {
+    next = λ y. record { first = rc; others = close c ++ tail_of s; is = refl; ready = refl };
+    goes = λ n scope at. spec-ends (head.Spec c (words ++ word.Enum name (Some (suc k)) false ∷ [])) c (words ++ word.Enum name (Some (suc k)) false ∷ []) _ _ _ s _ _
+        (speaks c (words ++ word.Enum name (Some (suc k)) false ∷ [])) (has_type-behind words (word.Enum name (Some (suc k)) false) refl) d b;
+  }
+  grow (head.ConstantsComma c words name k) from parts told s w u d b = record {
+    next = λ y. record { first = rc; others = close c ++ tail_of s; is = refl; ready = refl };
+    goes = λ n scope at. spec-ends (head.Spec c (words ++ word.Enum name (Some (suc k)) false ∷ [])) c (words ++ word.Enum name (Some (suc k)) false ∷ []) _ _ _ s _ _
+        (speaks c (words ++ word.Enum name (Some (suc k)) false ∷ [])) (has_type-behind words (word.Enum name (Some (suc k)) false) refl) d b;
+  }
+  grow (head.ConstantOf name) from parts told s w u d b = makes (head.ConstantOf name) (kind.EnumConst name true) from parts told s refl (constant-closer (class_of s) d) (λ m. refl) b
+  grow (head.FunctionBody words) from parts told s w u d b = makes (head.FunctionBody words) (kind.Function (spec words)) from parts told s refl (ap is_head_item d, λ token e. refl) (λ m. refl) b
+  grow (head.ParamOf words) from parts told s w u d b = makes (head.ParamOf words) (kind.Param (spec words)) from parts told s refl (param-ender (class_of s) d) (λ m. refl) b
+  grow (head.TypeOf words) from parts told s w u d b = makes (head.TypeOf words) (kind.NamedType (spec words)) from parts told s refl (type-ender (class_of s) d) (λ m. refl) b
+  grow (head.Stars n volatiles) from parts told s w u d b = makes (head.Stars n volatiles) (kind.Star volatiles) from parts told s refl (dir-ready n (class_of s) d) (λ m. refl) b
+  grow (head.EntryOf place equals) from parts told s w u d b = makes (head.EntryOf place equals) (kind.Entry place equals) from parts told s refl (entry-closer (class_of s) d) (λ m. refl) b
+  grow head.EntryIndex from parts told s w u d b = record { next = λ y. record { first = rb; others = zero_ ∷ tail_of s; is = refl; ready = refl }; goes = λ n scope at. (makes (head.EntryOf by.Index false) (kind.Entry by.Index false) _ _ _ s refl (entry-closer (class_of s) d) (λ m. refl) b).goes _ _ _ }
+  grow (head.ParamsStart inner) from parts told s w u d b = record { next = λ y. record { first = cm; others = int_ ∷ rp ∷ tail_of s; is = refl; ready = refl }; goes = λ n scope at. first-goes (only_void n.tree) n scope at refl }
+    where
+      first-goes : (v : Bool) (n : Read) (scope : Scope) (at : ℕ) → only_void n.tree ≡ v →
+          Finishes goal (run (Some (state (record { head = head.ParamsStart inner; from = from; parts = parts; told = told } ∷ s) scope at (Some n))) (cm ∷ int_ ∷ rp ∷ tail_of s))
+      first-goes true n scope at e =
+          subst (λ a. Finishes goal (run (attach (record { head = head.ParamsStart inner; from = from; parts = parts; told = told }) s n scope at cm (next_in s at cm) (first_param a inner)) (int_ ∷ rp ∷ tail_of s))) (sym e) (b.goes _ _ _)
+      first-goes false n scope at e =
+          subst (λ a. Finishes goal (run (attach (record { head = head.ParamsStart inner; from = from; parts = parts; told = told }) s n scope at cm (next_in s at cm) (first_param a inner)) (int_ ∷ rp ∷ tail_of s))) (sym e) (b.goes _ _ _)
+  grow head.FileItems from parts told s w u d b = absurd (false≢true u)
+  grow head.GoalExpression from parts told s w u d b = absurd (false≢true u)
+  grow head.GoalHead from parts told s w u d b = absurd (false≢true u)
+  grow _ from parts told s w u d b = absurd (false≢true w)
