@@ -1,16 +1,20 @@
 -- From a schedule, addresses and the parts of an image to what is loaded.
-use Rattle.std.proofs.Common.{ℕ, ◌+◌, ◌-◌, ◌*◌, ◌%◌, ◌^◌, ◌≡◌, ◌≤◌, ◌<◌, Some, List, [], ◌∷◌, ◌++◌, Result, Ok, length, refl, sym, ap, ◌∙◌, subst, All, arith}
+use Rattle.std.proofs.Common.{ℕ, zero, suc, ◌+◌, ◌-◌, ◌*◌, ◌/◌, ◌%◌, ◌^◌, ◌≡◌, ◌≤◌, ◌<◌, Some, List, [], ◌∷◌, ◌++◌, Result, Ok, Err, length, refl, sym, ap, ◌∙◌, subst, All, arith}
 use Rattle.std.specs.Prelude.{slice_get, slice_index}
-use Rattle.std.proofs.lemmas.Option.{slice_get_within}
+use Rattle.std.proofs.lemmas.Option.{none-some, slice_get_within}
 use Rattle.p9_base.specs.Core.{text_start}
 use Rattle.p9_abs.specs.declared.modules.AModule.{AModule}
 use Rattle.p9_abs.specs.BuiltIn.{linked}
-use Rattle.p9_abs.specs.Programs.{Placing, IsPlacing, init_size, bss_size, init_bytes, arun}
+use Rattle.p9_abs.specs.Programs.{Placing, IsPlacing, routines_of, init_size, bss_size, init_bytes, arun}
+use Rattle.p9_abs.specs.Validity.{IsValid}
 use Rattle.p9_object.specs.Laws.{IsObject}
 use Rattle.p9_r3k.specs.declared.lines.Line.{Line}
 use Rattle.p9_r3k.specs.Delayed.{line_address}
 use Rattle.p9_r3k.specs.Start.{start, page_from, zeros}
-use Rattle.p9_expand.specs.Program.{program_lines}
+use Rattle.p9_slot.specs.Schedule.{EachOnce}
+use Rattle.p9_text.specs.Weights.{text_weight, text_limit}
+use Rattle.p9_pieces.specs.Callees.{callee_in}
+use Rattle.p9_expand.specs.Program.{starts_of, program_lines}
 use Rattle.p9_expand.proofs.Answering.{marks_right}
 use Rattle.p9_image.specs.Text.{LinesFit, text_bytes}
 use Rattle.p9_image_laws.specs.Reaching.{LinesReach}

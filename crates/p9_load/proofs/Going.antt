@@ -1,13 +1,13 @@
 -- A placing by the list of addresses goes by the addresses at which lines are entered.
-use Rattle.std.proofs.Common.{ℕ, zero, suc, ◌+◌, ◌*◌, ◌^◌, ◌≡◌, ◌≤◌, ◌<◌, get_or, Some, List, [], ◌∷◌, length, take, map, refl, sym, ap, ◌∙◌, subst, arith}
+use Rattle.std.proofs.Common.{ℕ, zero, suc, ◌+◌, ◌*◌, ◌^◌, ◌≡◌, ◌≤◌, ◌<◌, get_or, Some, List, [], ◌∷◌, length, take, map, sum_by, refl, sym, ap, ◌∙◌, subst, All, arith}
 use Rattle.std.specs.Prelude.{slice_get, slice_index}
 use Rattle.std.proofs.lemmas.List.Sums.{sum_by-cons}
-use Rattle.std.proofs.lemmas.Option.{none-some, same_Some}
+use Rattle.std.proofs.lemmas.Option.{none-some, same_Some, slice_get_within}
 use Rattle.p9_base.specs.Core.{text_start}
 use Rattle.p9_abs.specs.declared.modules.AModule.{AModule}
 use Rattle.p9_abs.specs.BuiltIn.{linked}
 use Rattle.p9_abs.specs.Runs.{Routine}
-use Rattle.p9_abs.specs.Programs.{routines_of, init_size, bss_size}
+use Rattle.p9_abs.specs.Programs.{Placing, routines_of, init_size, bss_size}
 use Rattle.p9_r3k.specs.declared.lines.Line.{Line}
 use Rattle.p9_r3k.specs.Delayed.{line_address, enter}
 use Rattle.p9_r3k.specs.Start.{page_from}

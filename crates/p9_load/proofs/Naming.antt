@@ -1,5 +1,5 @@
 -- The names of symbol entries have no zero byte.
-use Rattle.std.proofs.Common.{ℕ, ◌≡◌, Option, Some, None, List, [], ◌∷◌, ◌++◌, map, refl, All, arith}
+use Rattle.std.proofs.Common.{ℕ, ◌+◌, ◌≡◌, ◌≤◌, ◌<◌, Bool, Option, Some, None, List, [], ◌∷◌, ◌++◌, length, map, refl, sym, ap, ◌∙◌, subst, All, arith}
 use Rattle.std.specs.Prelude.{slice_get, slice_index_or, Contains}
 use Rattle.std.proofs.lemmas.List.Elements.{All-nil, All-cons, All-append}
 use Rattle.p9_abs.specs.declared.modules.AModule.{AModule}
@@ -12,6 +12,7 @@ use Rattle.p9_abs.specs.Validity.{IsGraphic, IsName, IsValid}
 use Rattle.p9_abs.proofs.BuiltInValid.{builtin_valid}
 use Rattle.p9_refine.proofs.Numbers.{all-at}
 use Rattle.p9_refine.proofs.Own.{symbol-in}
+use Rattle.p9_aout.specs.declared.format.AoutSym.{AoutSym}
 use Rattle.p9_aout.specs.Symbols.{HasWholeName}
 use Rattle.p9_symbols.specs.declared.entries.Section.{Section}
 use Rattle.p9_symbols.specs.declared.entries.Section.TheVariants.{Text, Data, Bss}

@@ -1,17 +1,20 @@
 -- The parts of an executable, by what the layout holds.
-use Rattle.std.proofs.Common.{ℕ, ◌≡◌, Option, List, ◌++◌, map, ap, ◌∙◌}
+use Rattle.std.proofs.Common.{ℕ, ◌≡◌, Option, List, ◌++◌, ◌∷◌, [], map, sym, ap, ◌∙◌}
 use Rattle.std.specs.Prelude.{flat_map}
 use Rattle.p9_abs.specs.declared.modules.AModule.{AModule}
 use Rattle.p9_abs.specs.declared.modules.Def.{Def}
 use Rattle.p9_abs.specs.declared.modules.Symbol.{Symbol}
-use Rattle.p9_abs.specs.BuiltIn.{linked}
+use Rattle.p9_abs.specs.BuiltIn.{builtin_module, linked}
 use Rattle.p9_abs.specs.Names.{symbol_at}
 use Rattle.p9_abs.specs.Runs.{Routine}
 use Rattle.p9_abs.specs.Programs.{Placing, routines_of, inits_of, bss_of, records, address_of, object_bytes, init_bytes}
 use Rattle.p9_place.specs.declared.placing.Spot.{Spot}
 use Rattle.p9_place.specs.Places.{spots, def_of}
+use Rattle.p9_r3k.specs.declared.lines.Line.{Line}
+use Rattle.p9_image.specs.Text.{address_at, text_bytes}
 use Rattle.p9_data.specs.Data.{records_bytes}
 use Rattle.p9_aout.specs.declared.format.AoutSym.{AoutSym}
+use Rattle.p9_symbols.specs.declared.entries.Section.{Section}
 use Rattle.p9_symbols.specs.declared.entries.Section.TheVariants.{Text, Data, Bss}
 use Rattle.p9_symbols.specs.Tables.{tables_from, symbol_tables}
 use Rattle.p9_symbols.specs.Entries.{entries_of, routine_def, defs_of, place_of, symbol_entries}

@@ -1,5 +1,5 @@
 -- How many bytes the parts of an executable have.
-use Rattle.std.proofs.Common.{ℕ, ◌+◌, ◌-◌, ◌*◌, ◌≡◌, ◌≤◌, Bool, true, false, List, [], ◌∷◌, ◌++◌, length, sum_by, cond, refl, sym, ap, ◌∙◌, arith, length-append}
+use Rattle.std.proofs.Common.{ℕ, ◌+◌, ◌-◌, ◌*◌, ◌/◌, ◌≡◌, ◌≤◌, Bool, true, false, List, [], ◌∷◌, ◌++◌, length, sum_by, replicate, cond, refl, sym, ap, ◌∙◌, arith, length-append}
 use Rattle.std.specs.Prelude.{flat_map, filter, unwrap_or}
 use Rattle.std.proofs.lemmas.List.{length-replicate}
 use Rattle.std.proofs.lemmas.List.Sums.{sum_by-cons}
@@ -7,6 +7,8 @@ use Rattle.p9_base.specs.Numbers.{word_bytes}
 use Rattle.p9_abs.specs.declared.modules.Body.{Body}
 use Rattle.p9_abs.specs.declared.modules.Body.TheVariants.{Declared, Used, Text, Data, Common}
 use Rattle.p9_abs.specs.declared.modules.AModule.{AModule}
+use Rattle.p9_abs.specs.declared.modules.Def.{Def}
+use Rattle.p9_abs.specs.declared.modules.Symbol.{Symbol}
 use Rattle.p9_abs.specs.Modules.{size_of, pieces_of, pieces_size, rounded}
 use Rattle.p9_abs.specs.BuiltIn.{linked}
 use Rattle.p9_abs.specs.Programs.{Numbered, Placing, addresses_of, is_data, space_of, records, piece_bytes, object_bytes, zero_bytes, init_bytes, init_size}

@@ -1,5 +1,5 @@
 -- Modules that are joined, placed and expanded.
-use Rattle.std.specs.Prelude.{◌≡◌, List}
+use Rattle.std.specs.Prelude.{ℕ, ◌+◌, ◌≡◌, ◌≤◌, List}
 use Rattle.p9_abs.specs.declared.modules.AModule.{AModule}
 use Rattle.p9_abs.specs.BuiltIn.{linked}
 use Rattle.p9_abs.specs.Programs.{routines_of, inits_of, bss_of, init_size, bss_size}

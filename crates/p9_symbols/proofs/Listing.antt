@@ -1,5 +1,5 @@
 -- Tables as they are collected, module after module.
-use Rattle.std.proofs.Common.{ℕ, ◌+◌, ◌≡◌, List, [], ◌∷◌, ◌++◌, sym, ap, ◌∙◌, append_assoc}
+use Rattle.std.proofs.Common.{ℕ, ◌+◌, ◌≡◌, ◌<◌, List, [], ◌∷◌, ◌++◌, length, sym, ap, ◌∙◌, arith, append_assoc}
 use Rattle.p9_abs.specs.declared.modules.AModule.{AModule}
 use Rattle.p9_abs.specs.declared.modules.Def.{Def}
 use Rattle.p9_symbols.specs.Tables.{addresses_in, tables_from}

@@ -1,6 +1,7 @@
 -- Definitions lie where they are held to lie.
-use Rattle.std.proofs.Common.{ℕ, ◌+◌, ◌≡◌, Bool, true, false, Option, Some, None, List, [], ◌∷◌, ◌++◌, length, sum_by, take, map, cond, refl, sym, ap, ◌∙◌, arith, append_assoc, length-append}
-use Rattle.std.specs.Prelude.{option_map, option_and_then}
+use Rattle.std.proofs.Common.{ℕ, zero, suc, ◌+◌, ◌≡◌, ◌<◌, Bool, true, false, Option, Some, None, List, [], ◌∷◌, ◌++◌, length, sum_by, take, map, cond, refl, sym, ap, ◌∙◌, arith, append_assoc, length-append}
+use Rattle.std.specs.Prelude.{option_map, option_and_then, unwrap_or, slice_index}
+use Rattle.std.specs.Option.{option_or}
 use Rattle.std.proofs.Math.Path.{fun_ext}
 use Rattle.std.proofs.Math.Seq.{take-append_seam}
 use Rattle.std.proofs.lemmas.List.Sums.{sum_by-cons, sum_by-append}
@@ -12,6 +13,7 @@ use Rattle.p9_abs.specs.BuiltIn.{linked}
 use Rattle.p9_abs.specs.Runs.{Routine}
 use Rattle.p9_abs.specs.Programs.{Placing, Numbered, is_routine, routine_number, routines_of, placed_at, definition_of, stands_for, address_of, address_of_definition, offset_in, data_objects, space_of}
 use Rattle.p9_names.specs.Linking.{IsTable, ChoosesAll}
+use Rattle.p9_place.specs.declared.placing.Spot.{Spot}
 use Rattle.p9_place.specs.Places.{spots, def_of}
 use Rattle.p9_place.proofs.Owning.{held-chosen}
 use Rattle.p9_text.specs.Places.{places_of}

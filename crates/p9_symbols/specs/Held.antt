@@ -1,7 +1,9 @@
 -- Where definitions lie, as it is held.
 use Rattle.std.specs.Prelude.{ℕ, ◌+◌, Option, Some, None, option_and_then, unwrap_or, List, slice_index}
+use Rattle.std.specs.Option.{option_or}
 use Rattle.indexmap.specs.IndexMap.{get}
 use Rattle.p9_abs.specs.declared.modules.Def.{Def}
+use Rattle.p9_abs.specs.declared.modules.Symbol.{Symbol}
 use Rattle.p9_abs.specs.Names.{symbol_at}
 use Rattle.p9_text.specs.Entries.{same_key, key_of, held}
 use Rattle.p9_pieces.specs.Callees.{named_by}

@@ -1,11 +1,13 @@
-use Rattle.std.proofs.Common.{◌≡◌, ◌++◌, ◌∷◌, [], ap, ◌∙◌}
+use Rattle.std.proofs.Common.{◌≡◌, ◌++◌, ◌∷◌, [], Option, refl, sym, ap, ◌∙◌}
+use Rattle.std.specs.Prelude.{ℕ}
 use Rattle.p9_abs.specs.declared.modules.Def.{Def}
 use Rattle.p9_abs.specs.BuiltIn.{linked}
-use Rattle.p9_abs.specs.Programs.{routines_of, offset_in, data_objects, bss_of}
+use Rattle.p9_abs.specs.Programs.{routines_of, offset_in, data_objects, init_size, bss_of}
 use Rattle.p9_place.specs.Places.{spots}
 use Rattle.p9_text.specs.Entries.{entry_number, held}
 use Rattle.p9_expand.proofs.Basing.{offset_found}
 use Rattle.p9_symbols.specs.Placing.{placing_of}
+use Rattle.p9_symbols.specs.Entries.{place_of}
 use Rattle.p9_symbols.specs.Held.{offset_held, placed_by}
 use Rattle.p9_symbols.proofs.Placed.{places_same, addresses_same}
 use Rattle.p9_symbols.proofs.layout.Layout.new.Goals as goal
