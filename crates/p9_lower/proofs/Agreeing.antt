@@ -50,11 +50,11 @@ names_are (x ∷ xs) [] e = cc
 names_are (x ∷ xs) (y ∷ ys) e =
     ap (λ k. k ∷ xs) (eqb-true x y (left_true (x == y) (same_name xs ys) e)) ∙ ap (λ l. y ∷ l) (names_are xs ys (right_true (x == y) (same_name xs ys) e))
 
-no_number : (o : Option ℕ) → has_no_number o ≡ true → o ≡ None
+pub no_number : (o : Option ℕ) → has_no_number o ≡ true → o ≡ None
 no_number None e = refl
 no_number (Some n) e = cc
 
-a_number : (n : ℕ) (o : Option ℕ) → has_number n o ≡ true → o ≡ Some n
+pub a_number : (n : ℕ) (o : Option ℕ) → has_number n o ≡ true → o ≡ Some n
 a_number n None e = cc
 a_number n (Some m) e = ap (λ k. Some k) (eqb-true m n e)
 

@@ -16,6 +16,8 @@ pub mod Functions
 pub mod Charging
 pub mod Waiting
 pub mod Small
+pub mod Bytes
+pub mod Contents
 pub mod Means
 pub mod Expressions
 pub mod Examples

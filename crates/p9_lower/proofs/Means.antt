@@ -14,7 +14,8 @@ use Rattle.p9_lower.specs.Names.{Setting}
 use Rattle.p9_lower.specs.Statements.{stmt_tree}
 use Rattle.p9_lower.specs.Modules.{setting_of, function_of, function_or_empty, item_function, functions_from, initialiser_of, initialisers_from}
 use Rattle.p9_lower.specs.Premises.{function_setting, FunctionIsSound, ItemIsSound, ItemsAreSound}
-use Rattle.p9_lower.specs.Laws.{FunctionsMeanSame, PartsAreSame}
+use Rattle.p9_lower.specs.Laws.{FunctionsMeanSame, PartsAreSame, LoweredMeans}
+use Rattle.p9_lower.proofs.Contents.{contents_mean_same}
 use Rattle.p9_lower.proofs.Functions.{bodies_same, need_is, parameters_first}
 use Rattle.p9_lower.proofs.Small.{statement_charge, statement_waits, statement_goes, block_of_item}
 
@@ -125,4 +126,17 @@ parts_are_same m = record {
   function_numbers = function_numbers (setting_of m) 0 (symbols m);
   node_counts = node_counts (setting_of m) 0 (symbols m);
   initialiser_numbers = initialiser_numbers (setting_of m) 0 (symbols m);
+}
+
+-- THE WHOLE
+
+pub lowered_means : LoweredMeans
+lowered_means m sound = record {
+  symbols_are = refl;
+  tags_are = refl;
+  function_numbers = function_numbers (setting_of m) 0 (symbols m);
+  node_counts = node_counts (setting_of m) 0 (symbols m);
+  initialiser_numbers = initialiser_numbers (setting_of m) 0 (symbols m);
+  functions = functions_mean_same m sound.items;
+  contents = contents_mean_same m sound.firsts;
 }

@@ -1,5 +1,5 @@
 -- The laws of the trees of a source.
-use Rattle.std.specs.Prelude.{◌≡◌, ℕ, List, map, slice_get, Some}
+use Rattle.std.specs.Prelude.{◌≡◌, ℕ, true, List, map, slice_get, Some}
 use Rattle.p9_lang.specs.Types.{TypeTree}
 use Rattle.p9_lang.specs.Layout.{size_of}
 use Rattle.p9_lang.specs.Modules.{Typed, Source}
@@ -11,13 +11,13 @@ use Rattle.p9_tree.specs.Meaning.{Environment, evaluate, execute}
 use Rattle.p9_cmean.specs.Union.{union_of, weighed_nodes}
 use Rattle.p9_tree.specs.Modules.{TypedModule}
 use Rattle.p9_tree.specs.TRun.{functions_at}
-use Rattle.p9_tree.specs.Means.{FunctionsMean, typed_symbol, code_of, first_of, code_items, numbers_with}
+use Rattle.p9_tree.specs.Means.{SourceMeans, FunctionsMean, InitialisersMean, data_symbols, typed_symbol, code_of, first_of, code_items, numbers_with}
 use Rattle.p9_tree.specs.Same.{Same, AlikeFlow}
 use Rattle.p9_lower.specs.Expressions.{place_tree, value_tree}
 use Rattle.p9_lower.specs.Statements.{stmt_tree}
-use Rattle.p9_lower.specs.Modules.{lowered}
+use Rattle.p9_lower.specs.Modules.{setting_of, lowered}
 use Rattle.p9_lower.specs.Keeping.{Stands, Agree, setting_in}
-use Rattle.p9_lower.specs.Premises.{ExpressionIsSound, StatementIsSound, ItemsAreSound}
+use Rattle.p9_lower.specs.Premises.{ExpressionIsSound, StatementIsSound, ItemsAreSound, firsts_are_sound, SourceIsSound}
 
 -- An expression's tree means what the expression means.
 abbrev pub ValuesMean : Type 0
@@ -59,3 +59,14 @@ pub record Parts (m : Source) (typed : TypedModule) : Type 0 where
 
 abbrev pub PartsAreSame : Type 0
 PartsAreSame = (m : Source) → Parts m (lowered m)
+
+-- The first contents of a module's objects are the same, or the same item breaks a rule.
+abbrev pub ContentsMeanSame : Type 0
+ContentsMeanSame =
+    (m : Source) → firsts_are_sound (setting_of m) (data_symbols (symbols m)) ≡ true
+    → (modules : List Source) (owner : ℕ) → slice_get modules owner ≡ Some m
+    → InitialisersMean (union_of modules) owner (symbols m) m.tags (data_symbols (symbols m)) (lowered m).initialisers
+
+-- A typed module means what its source means.
+abbrev pub LoweredMeans : Type 0
+LoweredMeans = (m : Source) → SourceIsSound m → SourceMeans m (lowered m)

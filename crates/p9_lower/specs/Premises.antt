@@ -1,5 +1,5 @@
 -- What the law of trees asks of the nodes of a source, which typing leaves in each valid module.
-use Rattle.std.specs.Prelude.{◌≡◌, ℕ, ◌&&◌, ◌||◌, Bool, true, false, not, nat_lt, nat_le, List, [], ◌∷◌, ◌++◌, slice_get, Option, Some, None}
+use Rattle.std.specs.Prelude.{◌≡◌, ℕ, ◌+◌, ◌==◌, ◌&&◌, ◌||◌, length, Result, Ok, Err, Bool, true, false, not, nat_lt, nat_le, List, [], ◌∷◌, ◌++◌, slice_get, Option, Some, None}
 use Rattle.p9_lang.specs.declared.tree.CBinary.{CBinary}
 use Rattle.p9_lang.specs.declared.tree.CBinary.TheVariants as operator
 use Rattle.p9_lang.specs.declared.tree.Kind.{Kind}
@@ -8,9 +8,10 @@ use Rattle.p9_lang.specs.Trees.{node, none, more}
 use Rattle.p9_lang.specs.Types as types
 use Rattle.p9_lang.specs.Types.{TypeTree, TypeRow, Pointer, Tags, Meant, Nothing, Outer, Static, Auto, EnumValue, TypeName}
 use Rattle.p9_lang.specs.Layout.{size_of, size_limit}
-use Rattle.p9_lang.specs.Conversions.{is_pointer, is_function, Conversion, Same, Integer, Null, Inner, Ambiguous, No}
+use Rattle.p9_lang.specs.Conversions.{is_integer, is_pointer, is_function, Conversion, Same, Integer, Null, Inner, Ambiguous, No}
 use Rattle.p9_lang.specs.Constants.{type_at}
-use Rattle.p9_lang.specs.Symbols.{Symbol}
+use Rattle.p9_lang.specs.Initialisers.{Content, Word, AddressOf, Bytes, Write, BrokenItem}
+use Rattle.p9_lang.specs.Symbols.{Symbol, symbols}
 use Rattle.p9_lang.specs.Modules.{Label, Typed, TypedRow, Source}
 use Rattle.p9_cmean.specs.ConstantLaws.{ConstantsAreTyped}
 use Rattle.p9_cmean.specs.Declarations.{Automatic, declared_by, declared_in, Definition, definition_of}
@@ -21,7 +22,8 @@ use Rattle.p9_tree.specs.Charges.{pure}
 use Rattle.p9_lower.specs.Names.{Setting, outer_symbol, static_symbol}
 use Rattle.p9_lower.specs.Operators.{conversion_to}
 use Rattle.p9_lower.specs.Expressions.{value_tree}
-use Rattle.p9_lower.specs.Modules.{setting_of, result_of}
+use Rattle.p9_lower.specs.Modules.{setting_of, result_of, base_symbol}
+use Rattle.p9_tree.specs.Means.{DataSymbol, data_symbols, code_items}
 use Rattle.p9_lower.specs.Keeping.{is_function_at}
 
 -- OPERATORS
@@ -185,3 +187,44 @@ ItemIsSound m (Some d) = FunctionIsSound m d
 abbrev pub ItemsAreSound : Source → List Typed → Type 0
 ItemsAreSound m [] = Unit {0}
 ItemsAreSound m (item ∷ items) = ItemIsSound m (definition_of item) × ItemsAreSound m items
+
+-- FIRST CONTENTS of an object of this size: each write lies inside. A number is an integer's, or 0; an
+-- address is a pointer's, and its symbol is there; a string literal has bytes, and at least one.
+
+abbrev pub are_bytes : List ℕ → Bool
+are_bytes [] = true
+are_bytes (byte ∷ bytes) = nat_lt byte 256 && are_bytes bytes
+
+abbrev pub is_empty : List ℕ → Bool
+is_empty [] = true
+is_empty (byte ∷ bytes) = false
+
+abbrev pub is_found : Option ℕ → Bool
+is_found None = false
+is_found (Some number) = true
+
+abbrev pub lies_inside : (size offset length : ℕ) → Bool
+lies_inside size offset length = nat_le (offset + length) size
+
+abbrev pub content_is_sound : Setting → (size offset : ℕ) → TypeTree → Content → Bool
+content_is_sound setting size offset type (Word word) = (is_integer type || (word == 0)) && lies_inside size offset (size_of setting.tags type)
+content_is_sound setting size offset type (AddressOf base moved) =
+    is_pointer type && (is_found (base_symbol setting base) && lies_inside size offset 4)
+content_is_sound setting size offset type (Bytes bytes) =
+    are_bytes bytes && (not (is_empty bytes) && lies_inside size offset (length bytes))
+
+abbrev pub writes_are_sound : Setting → (size : ℕ) → List Write → Bool
+writes_are_sound setting size [] = true
+writes_are_sound setting size (w ∷ ws) = content_is_sound setting size w.offset w.type w.content && writes_are_sound setting size ws
+
+abbrev pub first_is_sound : Setting → (size : ℕ) → Result (List Write) BrokenItem → Bool
+first_is_sound setting size (Ok writes) = writes_are_sound setting size writes
+first_is_sound setting size (Err broken) = true
+
+abbrev pub firsts_are_sound : Setting → List DataSymbol → Bool
+firsts_are_sound setting [] = true
+firsts_are_sound setting (d ∷ ds) = first_is_sound setting (size_of setting.tags d.symbol.type) d.first && firsts_are_sound setting ds
+
+pub record SourceIsSound (m : Source) : Type 0 where
+  pub items : ItemsAreSound m (code_items (symbols m))
+  pub firsts : firsts_are_sound (setting_of m) (data_symbols (symbols m)) ≡ true

@@ -1,5 +1,5 @@
 // Laws of the definitions in `specs/`. Each function does nothing; its contract is the law.
-ghost use Rattle.p9_lower.specs.Laws.{FunctionsMeanSame, PartsAreSame, PlacesMean, StatementsMean, ValuesMean};
+ghost use Rattle.p9_lower.specs.Laws.{ContentsMeanSame, FunctionsMeanSame, LoweredMeans, PartsAreSame, PlacesMean, StatementsMean, ValuesMean};
 ghost use Rattle.p9_lower.specs.Examples.{RunsOfLowered, TreesOfLowered};
 
 /// The tree of an expression means what the expression means: the same play, with equal values where the
@@ -33,6 +33,19 @@ pub fn functions_mean_same()
 #[tactic(auto, using(crate::proofs::Means::parts_are_same))]
 pub fn parts_are_same()
     ensures { PartsAreSame }
+{}
+
+/// The first contents of a module's objects are the same by its typed module, or the same item of an
+/// initialiser breaks a rule.
+#[tactic(auto, using(crate::proofs::Contents::contents_mean_same))]
+pub fn contents_mean_same()
+    ensures { ContentsMeanSame }
+{}
+
+/// The typed module that is made of a source means what the source means: symbols, structures, functions in
+/// every program with any number of turns, and first contents.
+pub fn lowered_means()
+    ensures { LoweredMeans }
 {}
 
 /// What small programs come to by the typed trees that are made of them: the same as by their sources.

@@ -5,6 +5,6 @@
 mod laws;
 
 pub use laws::{
-    functions_mean_same, parts_are_same, places_mean, runs_of_lowered, statements_mean,
-    trees_of_lowered, values_mean,
+    contents_mean_same, functions_mean_same, lowered_means, parts_are_same, places_mean,
+    runs_of_lowered, statements_mean, trees_of_lowered, values_mean,
 };
