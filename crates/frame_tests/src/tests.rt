@@ -3,7 +3,7 @@ use p9_abs::{AFunction, Abs, Autos, Code, Depths, Op, Operand, Operands, TextDef
 use p9_base::NoMemory;
 use p9_flow::live;
 use p9_frame::settle;
-use p9_ready::may_settle;
+use p9_ready::{has_near_addresses, may_settle};
 use p9_region::{assign, regions};
 use std::alloc::Global;
 use std::test::Fail;
@@ -73,6 +73,7 @@ fn stored_and_read(rt: HostRuntime) -> Result<(), Fail> {
     push(alloc, &mut code, Op::MovW, &[auto, r2])?;
     push(alloc, &mut code, Op::Ret, &[])?;
     let f = function(alloc, &[4], code)?;
+    assert!(rt; has_near_addresses(&f));
     let mut want = Vec::new(alloc);
     push(alloc, &mut want, Op::MovW, &[Operand::Const(1), r1])?;
     push(alloc, &mut want, Op::MovW, &[r1, home])?;

@@ -12,7 +12,7 @@ use Rattle.p9_lang.specs.Types as types
 use Rattle.p9_lang.specs.Trees.{node, none, more}
 use Rattle.p9_lang.specs.Layout.{size_of, alignment_of}
 use Rattle.p9_lang.specs.Modules.{Label, Typed, TypedRow}
-use Rattle.p9_lang.specs.Conversions.{is_structure, Conversion, Same, Null, Inner, No}
+use Rattle.p9_lang.specs.Conversions.{is_integer, is_structure, Conversion, Same, Null, Inner, No}
 use Rattle.p9_lang.specs.Conversions as conversions
 use Rattle.p9_lang.specs.Constants.{truth, type_at}
 use Rattle.p9_cmean.specs.declared.Cause.{Cause}
@@ -112,7 +112,7 @@ module _
     p_store Nothing tags type pl a v s = p_no pl s
 
     p_by : (c : Conversion) (pl : Place) (to : TypeTree) (v : Value) (s : State) → P s (x.by_conversion c pl to v s)
-    p_by Same pl to v s = done v s
+    p_by Same pl to v s = p_if s (is_integer to) (done_at pl s (x.narrow to v)) (Done v s) (p_done_at pl s _) (done v s)
     p_by conversions.Integer pl to v s = p_done_at pl s _
     p_by Null pl to v s = done (Word 0) s
     p_by (Inner offset) pl to v s = p_done_at pl s _
@@ -173,8 +173,14 @@ module _
     p_value_of_name around n token type (EnumValue k) s = done (Word k) s
     p_value_of_name around n token type means s = p_bind s _ _ (p_name around (record { number = n; token = token; type = type; means = means }) s) (λ p t. p_read around type (at around (record { number = n; token = token; type = type; means = means })) p t)
 
+    p_answered_as : (b : Bool) (pl : Place) (v : Value) (s : State) → P s (x.answered_as b pl v s)
+    p_answered_as true pl (Word n) s = done (Word n) s
+    p_answered_as true pl (Address pointer) s = p_wrong cause.Mixed pl s
+    p_answered_as true pl (Missing call) s = done (Missing call) s
+    p_answered_as false pl v s = done v s
+
     p_call : (around : Surroundings) (pl : Place) (type : TypeTree) (f : Value) (vs : List Value) (s : State) → P s (x.call_through around pl type f vs s)
-    p_call around pl type f vs s = p_used f s _ (λ g. p_or pl s _ _ (λ name. p_ask _ s _ (λ v t. done v t)))
+    p_call around pl type f vs s = p_used f s _ (λ g. p_or pl s _ _ (λ name. p_ask _ s _ (λ v t. p_answered_as (x.gives_integer type) pl v t)))
 
     mutual
       pub p_address : (around : Surroundings) (e : Typed) (s : State) → P s (address around e s)

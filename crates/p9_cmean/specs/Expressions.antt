@@ -13,7 +13,7 @@ use Rattle.p9_lang.specs.Trees.{node, none, more}
 use Rattle.p9_lang.specs.Layout.{size_of, alignment_of}
 use Rattle.p9_lang.specs.Members.{Found, At, Missing, Ambiguous, Incomplete, find_member}
 use Rattle.p9_lang.specs.Modules.{Label, Typed, TypedRow}
-use Rattle.p9_lang.specs.Conversions.{is_pointer, is_structure, decayed, common, Conversion, Same, Null, Inner, No, conversion}
+use Rattle.p9_lang.specs.Conversions.{is_integer, is_pointer, is_structure, decayed, common, Conversion, Same, Null, Inner, No, conversion}
 use Rattle.p9_lang.specs.Conversions as conversions
 use Rattle.p9_lang.specs.Constants.{truth, narrowed, is_null_constant, type_at, constant_of}
 use Rattle.p9_cmean.specs.declared.Cause.{Cause}
@@ -21,7 +21,7 @@ use Rattle.p9_cmean.specs.declared.Cause.TheVariants as cause
 use Rattle.p9_cmean.specs.declared.Place.{Place}
 use Rattle.p9_cmean.specs.Cells.{FunctionName, Value, Word, Address, Object, State}
 use Rattle.p9_cmean.specs.Cells as cells
-use Rattle.p9_cmean.specs.Plays.{Play, Done, NoMeaning, Moved, Ask, bind}
+use Rattle.p9_cmean.specs.Plays.{Play, Done, Wrong, NoMeaning, Moved, Ask, bind}
 use Rattle.p9_cmean.specs.Access.{and_go, integer_in, pointer_in, null, usable, integer_from, pointer_from, loaded, stored, read_whole, written_whole, moved_inside}
 use Rattle.p9_cmean.specs.Contents.{Content, Integer, Reference, Aggregate, Nothing, content_of}
 use Rattle.p9_cmean.specs.Operators.{operation, of_integer, holds}
@@ -103,8 +103,13 @@ store_content Nothing tags type place address value s = NoMeaning place s
 abbrev pub narrow : TypeTree → Value → Result Value Cause
 narrow type value = and_go (integer_in value) (λ n. Ok (Word (narrowed type n)))
 
+-- A value of an integer type has the width of its type. Where a call answers it, that is asked here, since nothing
+-- else says what a call may answer.
+abbrev pub kept_value : Place → (type : TypeTree) → Value → State → Play Value
+kept_value place type value s = if is_integer type then done_at place s (narrow type value) else Done value s
+
 abbrev pub by_conversion : Conversion → Place → (to : TypeTree) → Value → State → Play Value
-by_conversion Same place to value s = Done value s
+by_conversion Same place to value s = kept_value place to value s
 by_conversion conversions.Integer place to value s = done_at place s (narrow to value)
 by_conversion Null place to value s = Done null s
 by_conversion (Inner offset) place to value s = done_at place s (moved_inside s.objects offset value)
@@ -240,11 +245,27 @@ function_at around type objects (Some (cells.Into object offset)) =
 function_at around type objects (Some (cells.ToFunction function)) =
     if around.has_type function type then Ok function else Err cause.WrongCall
 
+-- What a call is worth: no address where the function's result is an integer. Nothing else says what a call may answer,
+-- and no function of C answers one.
+
+abbrev pub gives_integer : TypeTree → Bool
+gives_integer (Function result parameters) = is_integer result
+gives_integer type = false
+
+abbrev pub answered_as : (an_integer : Bool) → Place → Value → State → Play Value
+answered_as true place (Word n) s = Done (Word n) s
+answered_as true place (Address pointer) s = Wrong cause.Mixed place s
+answered_as true place (cells.Missing call) s = Done (cells.Missing call) s
+answered_as false place value s = Done value s
+
+abbrev pub answered : Place → (type : TypeTree) → Value → State → Play Value
+answered place type value s = answered_as (gives_integer type) place value s
+
 abbrev pub call_through : Surroundings → Place → TypeTree → Value → List Value → State → Play Value
 call_through around place type function arguments s =
     used function s (λ f.
     or_wrong place s (and_go (pointer_in f) (function_at around type s.objects)) (λ name.
-    Ask (record { function = name; arguments = arguments; place = place }) s (λ value t. Done value t)))
+    Ask (record { function = name; arguments = arguments; place = place }) s (λ value t. answered place type value t)))
 
 -- EXPRESSIONS
 

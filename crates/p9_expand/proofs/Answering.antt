@@ -18,6 +18,7 @@ use Rattle.p9_lines.specs.Weights.{words_needed}
 use Rattle.p9_pieces.specs.Callees.{callee_in}
 use Rattle.p9_pieces.specs.Pieces.{pieces_from, joined}
 use Rattle.p9_pieces.proofs.Within.{program_within}
+use Rattle.p9_expand.specs.declared.expanding.ProgramLines.{ProgramLines}
 use Rattle.p9_expand.specs.Base.{argument_list, base_offset}
 use Rattle.p9_expand.specs.Program.{aimed, is_first, starts_of, lines_of, program_lines}
 use Rattle.p9_expand.specs.Laws.{IsMarked}
@@ -83,6 +84,7 @@ words_within modules lines e =
     subst (λ l. words_needed l ≤ text_weight (routines_of modules)) (sym e)
     (lines-words (callee_in modules) (routines_of modules) (length modules) argument_list (base_offset modules))
 
-pub if-lines : {F : Type 0} (P Q : List Line → Type 0) → ((lines : List Line) → P lines → Q lines) → (r : Result (List Line) F) → IfOk r P → IfOk r Q
-if-lines P Q to (Ok lines) h = to lines h
+pub if-lines : {F : Type 0} (P Q : List Line → Type 0) → ((lines : List Line) → P lines → Q lines) → (r : Result ProgramLines F) →
+    IfOk r (λ (e : ProgramLines). P e.lines) → IfOk r (λ (e : ProgramLines). Q e.lines)
+if-lines P Q to (Ok e) h = to e.lines h
 if-lines P Q to (Err f) h = tt

@@ -5,4 +5,4 @@ mod base;
 mod expanding;
 mod targets;
 
-pub use expanding::expand;
+pub use expanding::{ProgramLines, expand};

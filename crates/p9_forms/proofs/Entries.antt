@@ -1,5 +1,5 @@
 -- Entries and the start.
-use Rattle.std.proofs.Common.{ℕ, ◌+◌, ◌-◌, ◌*◌, ◌/◌, ◌%◌, ◌^◌, ◌==◌, ◌≡◌, ◌≢◌, ◌≤◌, ◌<◌, nat_lt, nat_le, Bool, true, false, refl, ap, ◌∙◌, subst, arith, if◌then◌else◌, List, [], ◌∷◌, ◌++◌, length, length-append}
+use Rattle.std.proofs.Common.{ℕ, ◌+◌, ◌-◌, ◌*◌, ◌/◌, ◌%◌, ◌^◌, ◌==◌, ◌≡◌, ◌≢◌, ◌≤◌, ◌<◌, nat_lt, nat_le, Bool, true, false, refl, ap, ◌∙◌, arith, if◌then◌else◌, List, [], ◌∷◌, ◌++◌, length, length-append}
 use Rattle.std.specs.Prelude.{bit_or, slice_set}
 use Rattle.std.proofs.lemmas.List.{get_or-set_same, get_or-set_other, set-set}
 use Rattle.std.proofs.lemmas.Bool.Decides.{nat_tests}
@@ -15,12 +15,12 @@ use Rattle.p9_r3k.specs.declared.inst.Inst.TheVariants as i
 use Rattle.p9_r3k.specs.declared.lines.Line.{Line}
 use Rattle.p9_r3k.specs.declared.lines.Part.TheVariants.{High, Low}
 use Rattle.p9_r3k.specs.Effects.{effect_of}
-use Rattle.p9_r3k.specs.Straight.{Straight, straight_step, straight_run}
-use Rattle.p9_lines.specs.FormLines.{plain, valued, constant_lines, lower_lines}
-use Rattle.p9_forms.specs.Standing.{Rest, stands, placed, Stand, Arrives}
+use Rattle.p9_r3k.specs.Straight.{Addresses, Straight, straight_step, straight_run}
+use Rattle.p9_lines.specs.FormLines.{plain, valued, constant_lines, lower_lines, entry_lines, start_lines}
+use Rattle.p9_forms.specs.Standing.{Rest, stands, placed, Stand}
 use Rattle.p9_forms.specs.Following.{Site}
-use Rattle.p9_forms.specs.Entering.{IsSettled, EntryDoes, StartDoes, entered_by}
-use Rattle.p9_forms.proofs.Temporary.{rest_at, seen, with_r, seen-other, seen-temporary, line-by, register-written, memory-written, run-one, run-then, arrives, halves}
+use Rattle.p9_forms.specs.Entering.{IsSettled, CanEnter, EntryDoes, StartDoes, entered_by, based_at}
+use Rattle.p9_forms.proofs.Temporary.{rest_at, seen, with_r, seen-other, seen-temporary, line-by, register-written, memory-written, run-one, run-then, halves}
 use Rattle.p9_forms.proofs.Doing.{Usual, constant-ready, stand-first, stand-rest}
 
 usual-of : (s : State) → IsSettled s → Usual s
@@ -96,11 +96,21 @@ stored-word c a v aligned free = by (a % 4 == 0) (nat_le 4 (writable c a)) (let 
     by true false e f = absurd (cc f)
     by false d e f = absurd (cc e)
 
-pub entry_does : EntryDoes
-entry_does h s t k v = by h.setting.keeps v.keeps v.there
+-- the lines of an entry are at most four
+pub record IsEntered (h : Site) (from : Straight) (s : State) (n : ℕ) : Type 0 where
+  pub lines : ℕ
+  pub some : 1 ≤ lines
+  pub few : lines ≤ 4
+  pub temporary : ℕ
+  pub rest : Rest
+  pub run : straight_run h.addresses h.lines lines from ≡ stands temporary rest s n
+
+pub entry-made : (h : Site) (s : State) (t : ℕ) (k : Rest) → CanEnter h s →
+    IsEntered h (stands t k s h.first) (entered_by h.setting.taken s) (h.first + length (entry_lines h.setting))
+entry-made h s t k v = by h.setting.keeps v.keeps v.there
   where
     by : (b : Bool) → b ≡ true → Stand h.lines h.place h.first (if b then lower_lines h.setting.taken ++ plain (i.Sw 29 31 0) ∷ [] else []) →
-        Arrives h.addresses h.lines (stands t k s h.first) (entered_by h.setting.taken s) (h.first + length (if b then lower_lines h.setting.taken ++ plain (i.Sw 29 31 0) ∷ [] else []))
+        IsEntered h (stands t k s h.first) (entered_by h.setting.taken s) (h.first + length (if b then lower_lines h.setting.taken ++ plain (i.Sw 29 31 0) ∷ [] else []))
     by false e there = absurd (cc e)
     by true e there =
         let count : ℕ = h.setting.taken in
@@ -118,26 +128,52 @@ entry_does h s t k v = by h.setting.keeps v.keeps v.there
         let address : word_sum (reg seen_core 29) (sign_extended 16 0) ≡ sp = ap (λ z. word_sum z 0) pointer ∙ omega (arith, v.settled.stack) in
         let stores : effect_of (i.Sw 29 31 0) seen_core ≡ effects.StoreWord sp (reg s.core 31) =
         ap (λ z. store_word seen_core z (reg seen_core 31)) address ∙ ap (λ z. store_word seen_core sp z) link ∙ stored-word seen_core sp (reg s.core 31) v.aligned v.free in
-        subst (λ j. Arrives h.addresses h.lines (stands t k s h.first) (entered_by count s) j) (let e : m + 1 ≡ h.first + length (ls ++ plain (i.Sw 29 31 0) ∷ []) = omega (arith, length-append ls (plain (i.Sw 29 31 0) ∷ [])) in e)
-        (arrives h.addresses h.lines r.lines (stands t k s h.first) (stands r.temporary r.rest low m) r.temporary (rest_at h.addresses m r.rest) (entered_by count s) (m + 1) r.run (omega (arith, r.few))
-        (line-by h.addresses h.lines m r.temporary r.rest low (placed h.place last.0 (plain (i.Sw 29 31 0))) (effects.StoreWord sp (reg s.core 31)) v.settled.running last.1 stores
-        ∙ memory-written r.temporary (rest_at h.addresses m r.rest) low (nat_lt sp stack_start) _ _ (m + 1)))
+        let end : Rest = rest_at h.addresses m r.rest in
+        let ends : m + 1 ≡ h.first + length (ls ++ plain (i.Sw 29 31 0) ∷ []) = omega (arith, length-append ls (plain (i.Sw 29 31 0) ∷ [])) in
+        record {
+          lines = r.lines + 1;
+          some = omega arith;
+          few = omega (arith, r.few);
+          temporary = r.temporary;
+          rest = end;
+          run = run-then h.addresses h.lines r.lines 1 (stands t k s h.first) (stands r.temporary r.rest low m) (stands r.temporary end (entered_by count s) (m + 1)) r.run
+              (run-one h.addresses h.lines (stands r.temporary r.rest low m)
+              ∙ line-by h.addresses h.lines m r.temporary r.rest low (placed h.place last.0 (plain (i.Sw 29 31 0))) (effects.StoreWord sp (reg s.core 31)) v.settled.running last.1 stores
+              ∙ memory-written r.temporary end low (nat_lt sp stack_start) _ _ (m + 1))
+              ∙ ap (λ j. stands r.temporary end (entered_by count s) j) ends;
+        }
 
-pub start_does : StartDoes
-start_does a lines place n unit symbol offset s t k v there =
+pub entry_does : EntryDoes
+entry_does h s t k v =
+    let e : IsEntered h (stands t k s h.first) (entered_by h.setting.taken s) (h.first + length (entry_lines h.setting)) = entry-made h s t k v in
+    record { count = e.lines; temporary = e.temporary; rest = e.rest; some = e.some; few = omega (arith, e.few); run = e.run }
+
+-- the start has two lines
+pub start-made : (a : Addresses) (lines : List Line) (place : ℕ → ℕ) (n unit symbol offset : ℕ) (s : State) (t : ℕ) (k : Rest) → IsSettled s →
+    Stand lines place n (start_lines unit symbol offset) →
+    (rest : Rest) × (straight_run a lines 2 (stands t k s n) ≡ stands t rest (based_at (word_sum (a.symbol unit symbol) offset) s) (n + 2))
+start-made a lines place n unit symbol offset s t k v there =
     let c : ℕ = word_sum (a.symbol unit symbol) offset in
     let hi : ℕ = c / 2 ^ 16 * 2 ^ 16 in
     let k1 : Rest = rest_at a n k in
+    let k2 : Rest = rest_at a (n + 1) k1 in
     let s1 : State = with_r 30 hi s in
-    let one : straight_run a lines 1 (stands t k s n) ≡ stands t k1 s1 (n + 1) =
-    run-one a lines (stands t k s n)
-    ∙ line-by a lines n t k s (placed place there.0 (valued (i.Lui 30 0) High unit symbol offset)) (effects.Write 30 hi) v.running there.1 refl
+    let one : straight_step a lines (stands t k s n) ≡ stands t k1 s1 (n + 1) =
+    line-by a lines n t k s (placed place there.0 (valued (i.Lui 30 0) High unit symbol offset)) (effects.Write 30 hi) v.running there.1 refl
     ∙ register-written a n t k s 30 hi (n + 1) refl in
-    let both : straight_step a lines (stands t k1 s1 (n + 1)) ≡ stands t (rest_at a (n + 1) k1) (with_r 30 c s1) (n + 1 + 1) =
+    let both : straight_step a lines (stands t k1 s1 (n + 1)) ≡ stands t k2 (with_r 30 c s1) (n + 1 + 1) =
     line-by a lines (n + 1) t k1 s1 (placed place there.2.0 (valued (i.Ori 30 30 0) Low unit symbol offset)) (effects.Write 30 c) v.running there.2.1
     (ap (λ z. effects.Write 30 (bit_or z (c % 2 ^ 16))) (seen-other a (n + 1) t k1 s1 30 refl ∙ get_or-set_same s.core.regs 30 hi 0 (omega (arith, v.count))) ∙ ap (effects.Write 30) (halves c))
     ∙ register-written a (n + 1) t k1 s1 30 c (n + 1 + 1) refl in
-    let twice : slice_set (slice_set s.core.regs 30 hi) 30 c ≡ slice_set s.core.regs 30 c = set-set s.core.regs 30 hi c in
-    subst (λ (l : List ℕ). Arrives a lines (stands t k s n) (record s { core = record s.core { regs = l } }) (n + 2)) twice
-    (subst (λ j. Arrives a lines (stands t k s n) (with_r 30 c s1) j) (let e : n + 1 + 1 ≡ n + 2 = omega arith in e)
-    (arrives a lines 1 (stands t k s n) (stands t k1 s1 (n + 1)) t (rest_at a (n + 1) k1) (with_r 30 c s1) (n + 1 + 1) one (omega arith) both))
+    let twice : slice_set (slice_set s.core.regs 30 hi) 30 c ≡ slice_set s.core.regs 30 c = set-set s.core.regs 30 hi c in (
+      k2,
+      run-then a lines 1 1 (stands t k s n) (stands t k1 s1 (n + 1)) (stands t k2 (with_r 30 c s1) (n + 1 + 1))
+          (run-one a lines (stands t k s n) ∙ one) (run-one a lines (stands t k1 s1 (n + 1)) ∙ both)
+          ∙ ap (λ j. stands t k2 (with_r 30 c s1) j) (let e : n + 1 + 1 ≡ n + 2 = omega arith in e)
+          ∙ ap (λ (l : List ℕ). stands t k2 (record s { core = record s.core { regs = l } }) (n + 2)) twice,
+    )
+
+pub start_does : StartDoes
+start_does a lines place n unit symbol offset s t k v there =
+    let r = start-made a lines place n unit symbol offset s t k v there in
+    record { count = 2; temporary = t; rest = r.0; some = omega arith; few = omega arith; run = r.1 }

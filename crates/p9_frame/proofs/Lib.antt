@@ -3,4 +3,5 @@ pub mod Offsets
 pub mod Moving
 pub mod Making
 pub mod Placing
+pub mod Held
 pub mod Framing

@@ -1,15 +1,9 @@
 -- The automatics are placed in the frame.
-use Rattle.std.proofs.Common.{ℕ, zero, suc, ◌+◌, ◌%◌, ◌==◌, ◌||◌, ◌≡◌, ◌≢◌, ◌⊎◌, inl, inr, ◌≤◌, max, true, false, not, Some, None, ap, ◌∙◌, arith, List, [], ◌∷◌, slice_get, slice_index, map, if◌then◌else◌}
-use Rattle.std.specs.List.{list_any}
-use Rattle.std.proofs.lemmas.Bool.Decides.{eqb_tells}
+use Rattle.std.proofs.Common.{ℕ, zero, suc, ◌+◌, ◌%◌, ◌≡◌, inl, inr, ◌≤◌, max, Some, None, ◌∙◌, arith, List, [], ◌∷◌, slice_get, slice_index, map}
 use Rattle.std.proofs.lemmas.List.{length-map}
 use Rattle.p9_abs.specs.declared.instructions.Abs.{Abs}
 use Rattle.p9_abs.specs.declared.instructions.AFunction.{AFunction}
-use Rattle.p9_abs.specs.declared.instructions.TextDef.{TextDef}
-use Rattle.p9_abs.specs.Forms.{decoded}
-use Rattle.p9_abs.specs.Automatics.{holds_of, calls_in}
 use Rattle.p9_abs.specs.Validity.{IsFrame}
-use Rattle.p9_abs.specs.Runs.{taken_by}
 use Rattle.p9_abs.specs.OneCall.{UsesWord, ArePlaced}
 use Rattle.p9_frame.specs.Sizes.{rounded, greatest_named, first_offset, offsets_from, end_from, stated_sum}
 use Rattle.p9_frame.proofs.Offsets.{offsets-length, offset-facts, offset-order, first-fourfold, first-above, end-fourfold, end-bound, named-bound}
@@ -64,10 +58,6 @@ module _ (f : AFunction) where
   pub frame-some : 4 ≤ frame
   frame-some = let k = first-above (greatest_named f.code) 0 (omega arith) in omega (arith, k)
 
--- code with a frame keeps its return address
-pub taken-is : (def : TextDef) → 4 ≤ def.frame → taken_by def ≡ def.frame + 4
-taken-is def l = by (eqb_tells def.frame 0)
-  where
-    by : (((def.frame == 0) ≡ true) × (def.frame ≡ 0)) ⊎ (((def.frame == 0) ≡ false) × (def.frame ≢ 0)) → taken_by def ≡ def.frame + 4
-    by (inl t) = absurd (let q = t.1 in omega (arith, l, q))
-    by (inr t) = ap (λ b. if not b || list_any (λ (a : Abs). holds_of calls_in (decoded a)) def.code then def.frame + 4 else 0) t.0
+  -- the frame ends with a spare word
+  pub spare-word : (v p : ℕ) → slice_get offsets v ≡ Some p → p + slice_index f.autos v ≤ frame
+  spare-word v p e = let w = (offset-facts first f.autos v p (first-fourfold (greatest_named f.code)) e).2 in let h = up (slice_index f.autos v) in omega (arith, w, h)

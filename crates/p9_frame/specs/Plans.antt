@@ -1,22 +1,9 @@
--- Which moves stand where (`held`, `plan_of`), and code that may be framed (`IsPlain`).
-use Rattle.std.specs.Prelude.{ℕ, zero, suc, ◌+◌, ◌⊎◌, ◌<◌, ◌≢◌, Bool, true, false, Option, Some, None, List, [], ◌∷◌, ◌++◌, All, if◌then◌else◌}
-use Rattle.p9_abs.specs.declared.instructions.Op.TheVariants.{Syscall}
-use Rattle.p9_abs.specs.declared.instructions.Operand.{Operand}
-use Rattle.p9_abs.specs.declared.instructions.Operand.TheVariants.{Reg, MemReg}
+-- Which moves stand where: `held`, `plan_of`.
+use Rattle.std.specs.Prelude.{ℕ, zero, suc, ◌+◌, Bool, true, false, Option, Some, None, List, [], ◌∷◌, ◌++◌, if◌then◌else◌}
 use Rattle.p9_abs.specs.declared.instructions.Abs.{Abs}
 use Rattle.p9_abs.specs.Automatics.{call_at, writes_at}
 use Rattle.p9_abs.specs.Framed.{Shift, Plan}
 use Rattle.p9_homes.specs.Tables.{cell}
-
--- Code that names no home and has no system call
-
-abbrev pub NamesNoHome : Operand → Type 0
-NamesNoHome (Reg r) = (r < 9) ⊎ (20 < r)
-NamesNoHome (MemReg r o) = (r < 9) ⊎ (20 < r)
-NamesNoHome _ = Unit {0}
-
-abbrev pub IsPlain : List Abs → Type 0
-IsPlain code = All (λ a. (a.op ≢ Syscall) × All NamesNoHome a.operands) code
 
 -- Moves
 

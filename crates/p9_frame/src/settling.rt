@@ -3,10 +3,12 @@
 ghost use Rattle.std.specs.Prelude.{◌≡◌, ◌≤◌, IfOk, length};
 ghost use Rattle.p9_abs.specs.Automatics.{IsCode};
 ghost use Rattle.p9_abs.specs.Regions.{AreRegions, AreHomes};
-ghost use Rattle.p9_abs.specs.Framed.{Framed};
+ghost use Rattle.p9_abs.specs.Validity.{IsFunction};
+ghost use Rattle.p9_abs.specs.Keeping.{IsSettled};
 ghost use Rattle.p9_homes.specs.Tables.{AreWithin};
+ghost use Rattle.p9_keeps.specs.Addresses.{HasNearAddresses};
 ghost use Rattle.p9_frame.specs.Sizes.{end_from, stated_sum};
-ghost use Rattle.p9_frame.specs.Plans.{IsPlain};
+ghost use Rattle.p9_homed.specs.Plain.{IsPlain};
 ghost use Rattle.p9_frame.specs.Making.{first_of, IsMade};
 
 use crate::code::code_of;
@@ -64,7 +66,9 @@ pub fn settle(
     requires regions { AreRegions f.now regions.now }
     requires homes { AreHomes regions.now homes.now }
     requires room { stated_sum f.now ≤ 16777212 }
-    ensures framed { IfOk result (λ def. Framed f.now regions.now homes.now def) }
+    // Framed from the function, and it keeps its meaning at the same offsets.
+    ensures keeps { IfOk result (λ def. IsSettled f.now regions.now homes.now def) }
+    ensures valid { HasNearAddresses f.now → IfOk result (λ def. IsFunction def) }
     ensures frame { IfOk result (λ def. def.frame ≤ stated_sum f.now) }
 {
     let def = def_of(alloc, &f.code.list, &f.autos.list, regions, homes)?;

@@ -1,1 +1,2 @@
 pub mod Homed
+pub mod Plain

@@ -21,8 +21,8 @@ impl Model for SymbolAddresses {
     ghost view = { λ a. a.list.items };
 }
 
-// The address of a symbol of a module, or 0 of what has none.
-fn address(tables: &[SymbolAddresses], unit: u32, symbol: u32) -> u32
+/// The address of a symbol of a module, or 0 of what has none.
+pub fn address(tables: &[SymbolAddresses], unit: u32, symbol: u32) -> u32
     ensures { result ≡ address_at tables.now unit symbol }
 {
     match tables.get(unit as usize) {

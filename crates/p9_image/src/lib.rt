@@ -4,7 +4,7 @@
 mod filling;
 mod text;
 
-pub use filling::SymbolAddresses;
+pub use filling::{SymbolAddresses, address};
 pub use text::text_bytes;
 
 #[cfg(test)]

@@ -1,2 +1,5 @@
 pub mod Faults
 pub mod Refusals
+pub mod Expansions
+pub mod Addresses
+pub mod Loading

@@ -1,5 +1,5 @@
 // Why modules are not loaded.
-use p9_base::Name;
+use p9_base::{Name, NoMemory};
 use p9_names::LinkFault;
 use p9_place::PlaceFault;
 use p9_text::ExpandFault;
@@ -24,6 +24,17 @@ pub enum LoadFault {
     TextTooLarge(u64),
     #[error("out of memory")]
     Memory,
+}
+
+impl From<NoMemory> for LoadFault {
+    ghost use Rattle.std.specs.Prelude.{◌≡◌};
+    ghost use Rattle.p9_load.specs.declared.fault.LoadFault.TheVariants.{Memory};
+
+    ghost from_gives = { λ _ fault. fault ≡ Memory };
+
+    fn from(_: NoMemory) -> LoadFault {
+        LoadFault::Memory
+    }
 }
 
 impl From<LinkFault> for LoadFault {

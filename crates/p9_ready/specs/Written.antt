@@ -5,7 +5,7 @@ use Rattle.p9_abs.specs.declared.instructions.Op.TheVariants.{Syscall}
 use Rattle.p9_abs.specs.declared.instructions.Operand.{Operand}
 use Rattle.p9_abs.specs.declared.instructions.Operand.TheVariants.{Reg}
 use Rattle.p9_abs.specs.declared.instructions.Abs.{Abs}
-use Rattle.p9_frame.specs.Plans.{NamesNoHome}
+use Rattle.p9_homed.specs.Plain.{NamesNoHome}
 
 -- an operand, where it is a register, is one that may be written
 abbrev pub IsWrittenRegister : Operand → Type 0

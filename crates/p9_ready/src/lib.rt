@@ -4,4 +4,4 @@
 mod functions;
 mod operands;
 
-pub use functions::may_settle;
+pub use functions::{has_near_addresses, may_settle};

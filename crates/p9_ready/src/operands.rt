@@ -1,9 +1,10 @@
 // Whether an instruction over automatics is valid and plain.
-ghost use Rattle.std.specs.Prelude.{◌≡◌, ◌≢◌, ◌↔◌, true, IsTrue, All};
+ghost use Rattle.std.specs.Prelude.{◌≡◌, ◌≢◌, ◌↔◌, true, IsTrue, All, slice_index};
 ghost use Rattle.p9_abs.specs.Forms.{IsForm};
 ghost use Rattle.p9_abs.specs.Validity.{IsRegister, writes_last, IsWritable};
 ghost use Rattle.p9_abs.specs.Automatics.{IsOperandOf, IsInstructionOf};
-ghost use Rattle.p9_frame.specs.Plans.{NamesNoHome};
+ghost use Rattle.p9_homed.specs.Plain.{NamesNoHome};
+ghost use Rattle.p9_keeps.specs.Addresses.{IsNear};
 ghost use Rattle.p9_ready.specs.Written.{IsPlainInstruction, IsWrittenRegister};
 
 use p9_abs::{Abs, Op, Operand, decoded};
@@ -46,6 +47,31 @@ fn name_no_home(operands: &[Operand]) -> bool
     ensures { IsTrue result ↔ All NamesNoHome operands.now }
 {
     operands.iter().all(|o| names_no_home(*o))
+}
+
+fn size_at(sizes: &[u32], v: u32) -> u32
+    ensures { result ≡ slice_index sizes.now v }
+{
+    match sizes.get(v as usize) {
+        Some(size) => *size,
+        None => 0,
+    }
+}
+
+fn is_near(sizes: &[u32], operand: Operand) -> bool
+    ensures { IsTrue result ↔ IsNear sizes.now operand }
+{
+    match operand {
+        Operand::AutoAddr(v, o) => o <= size_at(sizes, v),
+        _ => true,
+    }
+}
+
+/// Whether each address of an automatic is that of one of its bytes, or of the byte behind them.
+pub(crate) fn are_near(sizes: &[u32], operands: &[Operand]) -> bool
+    ensures { IsTrue result ↔ All (IsNear sizes.now) operands.now }
+{
+    operands.iter().all(|o| is_near(sizes, *o))
 }
 
 fn is_no_system_call(op: Op) -> bool

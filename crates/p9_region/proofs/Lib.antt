@@ -11,3 +11,4 @@ pub mod Joining
 pub mod Grouping
 pub mod Targets
 pub mod Gathering
+pub mod Columns

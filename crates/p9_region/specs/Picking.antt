@@ -41,6 +41,18 @@ written_in v (Some s) = is_it v s.written
 abbrev pub point_bit : List Step → List ℕ → ℕ → ℕ → ℕ → Bool
 point_bit steps bits width v i = live_bit bits width v i || written_in v (slice_get steps i)
 
+-- a point of one of 64 automatics
+abbrev pub is_in_column : ℕ → Option ℕ → Bool
+is_in_column word None = false
+is_in_column word (Some w) = w / 64 == word
+
+abbrev pub column_written : ℕ → Option Step → Bool
+column_written word None = false
+column_written word (Some s) = is_in_column word s.written
+
+abbrev pub column_bit : List Step → List ℕ → ℕ → ℕ → ℕ → Bool
+column_bit steps bits width word i = not (slice_index bits (i * width + word) == 0) || column_written word (slice_get steps i)
+
 -- Points and edges of v
 
 pub record ArePoints (f : AFunction) (v : ℕ) (points : List ℕ) : Type 0 where

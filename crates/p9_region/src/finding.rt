@@ -1,15 +1,16 @@
 // The regions of a function.
 
-ghost use Rattle.std.specs.Prelude.{◌≡◌, ◌<◌, ◌^◌, ℕ, false, length, slice_index_or, IfOk, OnOk};
+ghost use Rattle.std.specs.Prelude.{◌≡◌, ◌<◌, ◌^◌, ◌/◌, ℕ, false, length, slice_index_or, IfOk, OnOk};
 ghost use Rattle.p9_abs.specs.Automatics.{is_candidate};
 ghost use Rattle.p9_abs.specs.Regions.{AreRegions};
 ghost use Rattle.p9_flow.specs.Rows.{AreLiveRows};
+ghost use Rattle.p9_region.specs.Picking.{picked, column_bit};
 ghost use Rattle.p9_region.specs.Finding.{points_in, AddsIf, AddsRegions};
 
 use crate::classes::labels_of;
 use crate::edges::edges;
 use crate::groups::add_groups;
-use crate::points::points;
+use crate::points::{next_column, points};
 use crate::steps::{Step, steps};
 use p9_abs::{AFunction, Region, Regions};
 use p9_base::NoMemory;
@@ -36,7 +37,7 @@ fn add_points(
     Ok(())
 }
 
-// Adds the regions of an automatic that is a candidate.
+// Adds the regions of an automatic that is a candidate, from the points of its column.
 fn add_automatic(
     alloc: Global,
     is_candidate: bool,
@@ -44,15 +45,17 @@ fn add_automatic(
     bits: &[u64],
     width: u32,
     v: u32,
+    column: &[u32],
     regions: &mut Vec<Region>,
 ) -> Result<(), NoMemory>
-    requires { length steps.now < 2 ^ 32 }
+    requires few { length steps.now < 2 ^ 32 }
+    requires column { column.now ≡ picked (column_bit steps.now bits.now width (v / 64)) (length steps.now) }
     ensures { OnOk result (AddsIf is_candidate steps.now bits.now width v regions.old.items regions.new.items) }
 {
     if !is_candidate {
         return Ok(());
     }
-    let points = points(alloc, steps, bits, width, v)?;
+    let points = points(alloc, steps, bits, width, v, column)?;
     add_points(alloc, steps, bits, width, v, &points, regions)?;
     Ok(())
 }
@@ -72,7 +75,9 @@ fn regions_of(
         return Err(NoMemory);
     }
     let mut list = Vec::new(alloc);
+    let mut column = Vec::new(alloc);
     for v in 0..candidates.len() as u32 {
+        column = next_column(alloc, &steps, &rows.bits, rows.width, v, column)?;
         add_automatic(
             alloc,
             candidates[v as usize],
@@ -80,6 +85,7 @@ fn regions_of(
             &rows.bits,
             rows.width,
             v,
+            &column,
             &mut list,
         )?;
     }

@@ -174,7 +174,7 @@ each_once old new moved h = record {
 
 -- Calls and targets
 
-is-within : (p : Inst → Bool) (old : List Line) (i : ℕ) → is_at p old i ≡ true → i < length old
+pub is-within : (p : Inst → Bool) (old : List Line) (i : ℕ) → is_at p old i ≡ true → i < length old
 is-within p old i h = go (slice_get old i) refl h
   where
     go : (o : Option Line) → slice_get old i ≡ o → line_is p o ≡ true → i < length old

@@ -15,3 +15,4 @@ pub mod Adding
 pub mod Justifying
 pub mod Added
 pub mod Schedulable
+pub mod Spacing

@@ -1,5 +1,5 @@
 -- What a schedule of lines is. Each old line i has a new number, moved[i]; beside the old lines stand added no-ops.
-use Rattle.std.specs.Prelude.{ℕ, ◌+◌, ◌≡◌, ◌<◌, ◌⊎◌, Bool, true, false, Option, Some, None, IsSome, List, length, slice_get, slice_index}
+use Rattle.std.specs.Prelude.{ℕ, suc, ◌+◌, ◌≡◌, ◌≤◌, ◌<◌, ◌⊎◌, Bool, true, false, Option, Some, None, IsSome, if◌then◌else◌, List, length, slice_get, slice_index}
 use Rattle.p9_r3k.specs.declared.inst.Inst.{Inst}
 use Rattle.p9_r3k.specs.declared.lines.Line.{Line}
 use Rattle.p9_r3k.specs.Effects.{writes_pair}
@@ -82,3 +82,17 @@ abbrev pub TargetsDivide : List Line → List Line → List ℕ → Type 0
 TargetsDivide old new moved =
     (i t : ℕ) (line : Line) → slice_get old t ≡ Some line → line.is_target ≡ true → i < t →
     slice_index moved i < enter moved (length new) t
+
+-- How far apart lines are
+
+-- at most so many new lines lie from where old line i is entered to where the next one is: the line, one in its delay,
+-- and two before the next line where that writes HI or LO
+abbrev pub most_between : List Line → ℕ → ℕ
+most_between old i = 1 + (if is_at delays old i then 1 else 0) + (if is_at writes_pair old (suc i) then 2 else 0)
+
+-- the first line is entered first, each other one not far behind the one before it, and a branch, jump or load stands
+-- where it is entered
+pub record IsSpaced (old new : List Line) (moved : List ℕ) : Type 0 where
+  pub first : enter moved (length new) 0 ≡ 0
+  pub next : (i : ℕ) → i < length old → enter moved (length new) (suc i) ≤ enter moved (length new) i + most_between old i
+  pub early : (i : ℕ) → is_at delays old i ≡ true → slice_index moved i ≡ enter moved (length new) i

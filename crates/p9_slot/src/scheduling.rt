@@ -1,7 +1,7 @@
 // The schedule.
 
 ghost use Rattle.std.specs.Prelude.{IfOk};
-ghost use Rattle.p9_slot.specs.Schedule.{HaveTargets, TargetsAreLines, EachOnce, AddsOnlyNoops, CallsReturn, TargetsDivide};
+ghost use Rattle.p9_slot.specs.Schedule.{HaveTargets, TargetsAreLines, EachOnce, AddsOnlyNoops, CallsReturn, TargetsDivide, IsSpaced};
 ghost use Rattle.p9_slot.specs.Justified.{NoopsJustified};
 ghost use Rattle.p9_slot.specs.Runs.{RunsAsStraight};
 
@@ -30,6 +30,7 @@ pub fn schedule(alloc: Global, lines: &Lines) -> Result<Scheduled, NoMemory>
     ensures justified { IfOk result (λ s. NoopsJustified s.lines s.moved.items) }
     ensures calls { IfOk result (λ s. CallsReturn lines.now s.lines s.moved.items) }
     ensures divided { IfOk result (λ s. TargetsDivide lines.now s.lines s.moved.items) }
+    ensures spaced { IfOk result (λ s. IsSpaced lines.now s.lines s.moved.items) }
     ensures runs { IfOk result (λ s. RunsAsStraight lines.now s.lines s.moved.items) }
 {
     let blocks = blocks(alloc, &lines.list)?;

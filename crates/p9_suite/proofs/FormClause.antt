@@ -1,11 +1,7 @@
 -- What is special to the form of C so far.
-use Rattle.std.proofs.Common.{◌≡◌, ◌≢◌, ◌≤◌, ℕ, ◌+◌, true, List, ◌∷◌, ◌++◌, map, Option, Some, None, Result, Ok, refl, sym, ◌∙◌, ap, subst}
+use Rattle.std.proofs.Common.{◌≡◌, ◌≢◌, ◌≤◌, ℕ, ◌+◌, true, false, List, ◌∷◌, ◌++◌, map, Option, Some, None, Result, Ok, refl, sym, ◌∙◌, ap, subst}
 use Rattle.std.specs.Prelude.{IsSomeAnd}
 use Rattle.p9_agree.specs.Depth.{IsNotDeep}
-use Rattle.p9_asm.specs.declared.fault.AsmFault.{AsmFault}
-use Rattle.p9_asm.specs.declared.fault.AsmFault.TheVariants as assembly
-use Rattle.p9_lex.specs.declared.token.LexFault.{LexFault}
-use Rattle.p9_lex.specs.declared.token.LexFault.TheVariants as lexing
 use Rattle.p9_base.specs.CallBytes.{IsSteady, brought_in, written_in}
 use Rattle.p9_base.specs.Calls.{Call, OnFiles, OnStream, StreamCall, StreamsDid, Did}
 use Rattle.p9_base.specs.Core.{Core}
@@ -29,11 +25,12 @@ use Rattle.p9_headline.specs.Headline as seen
 use Rattle.p9_straight.specs.Headline.{seen_of, union_run}
 use Rattle.p9_vi.specs.Run.{vrun, IsExited}
 use Rattle.p9_suite.proofs.Calls.{of_store, of_streams, split}
-use Rattle.p9_suite.proofs.RunCases.{LinkCase, not_linked, ran_out, not_written, written_and_run, RunCase, unread_forms, read_forms, run_case}
+use Rattle.p9_suite.proofs.RunCases.{LinkCase, not_linked, no_link, has_linked, RunCase, unread_forms, read_forms, run_case}
+use Rattle.p9_suite.proofs.Executed.{not_executed, ran_behind}
 use Rattle.p9_suite.proofs.HeadlineClause.{modules_sources}
 use Rattle.p9_suite.proofs.Meaning.{Meaning, told_by}
 use Rattle.p9_suite.proofs.Ran as runs
-use Rattle.p9_suite.specs.Answers.{refusal_status, link_status, executable_status, lex_status, assembly_status}
+use Rattle.p9_suite.proofs.Refusals.{no_run}
 use Rattle.p9_suite.specs.Scene.{Scene, IsAnswer, has_run}
 use Rattle.p9_suite.specs.Simulation.{IsRunBy, exit_answer, answer_by, answer_at}
 use Rattle.p9_suite.specs.Suite.{Answered, Comes, CommandComes, answer_of, command}
@@ -42,51 +39,7 @@ use Rattle.p9_suite.specs.commands.Run.{DoNothingUndefined, HaveEnded, OfForm, F
 use Rattle.p9_suite.specs.declared.answer.Answer.{Answer}
 use Rattle.p9_suite.specs.declared.answer.Answer.TheVariants.{Refused}
 use Rattle.p9_suite.specs.declared.answer.Refusal.{Refusal}
-use Rattle.p9_suite.specs.declared.answer.Refusal.TheVariants.{Assembly, Absent, StoreFault, NotBuilt, Link, Executable, Memory}
-use Rattle.p9_aout.specs.declared.format.AoutFault.{AoutFault}
-use Rattle.p9_aout.specs.declared.format.AoutFault.TheVariants as executables
-use Rattle.p9_names.specs.declared.table.LinkFault.{LinkFault}
-use Rattle.p9_names.specs.declared.table.LinkFault.TheVariants as links
-
--- A refusal's status is none of a run
-
-no_link_run : (why : LinkFault) → has_run (link_status why) ≡ true → ⊥
-no_link_run (links.Twice name i j) e = cc
-no_link_run links.NoMain e = cc
-no_link_run (links.MainType i) e = cc
-no_link_run (links.Unresolved name i) e = cc
-no_link_run (links.Disagree name i j) e = cc
-no_link_run links.Memory e = cc
-
-no_executable_run : (why : AoutFault) → has_run (executable_status why) ≡ true → ⊥
-no_executable_run (executables.BadMagic magic) e = cc
-no_executable_run (executables.ShortFile need) e = cc
-no_executable_run executables.BadSegment e = cc
-no_executable_run executables.Memory e = cc
-
-no_lex_run : (why : LexFault) → has_run (lex_status why) ≡ true → ⊥
-no_lex_run (lexing.BadByte at line) e = cc
-no_lex_run (lexing.OpenComment at line) e = cc
-no_lex_run (lexing.OpenText at line) e = cc
-no_lex_run (lexing.WideNumber at line) e = cc
-no_lex_run lexing.Memory e = cc
-
-no_assembly_run : (why : AsmFault) → has_run (assembly_status why) ≡ true → ⊥
-no_assembly_run (assembly.Lex why) e = no_lex_run why e
-no_assembly_run (assembly.AsmSyntax line) e = cc
-no_assembly_run (assembly.Reserved line register) e = cc
-no_assembly_run (assembly.NoLabel line name) e = cc
-no_assembly_run (assembly.LabelTwice line name) e = cc
-no_assembly_run assembly.Memory e = cc
-
-no_refusal_run : (why : Refusal) → has_run (refusal_status why) ≡ true → ⊥
-no_refusal_run (Absent name) e = cc
-no_refusal_run (StoreFault name) e = cc
-no_refusal_run (NotBuilt name) e = cc
-no_refusal_run (Assembly name why) e = no_assembly_run why e
-no_refusal_run (Link why) e = no_link_run why e
-no_refusal_run (Executable name why) e = no_executable_run why e
-no_refusal_run Memory e = cc
+use Rattle.p9_suite.specs.declared.answer.Refusal.TheVariants.{Link, Memory}
 
 -- The end of the sources
 
@@ -155,9 +108,12 @@ has_ended call run files bytes own answer enough program b is after steady fine 
 
 -- The clause
 
+false_true : false ≡ true → ⊥
+false_true e = cc
+
 module _ {I O F : Type 0} (call : Scene I O F) (means : Meaning call) (run : Run) (enough : DEFAULT_BUDGET ≤ run.budget) (ran : has_run call.status ≡ true) (seven : call.status ≢ 7) (eight : call.status ≢ 8) where
   refused : (why : Refusal) → IsAnswer call (Refused why) → OfForm call run
-  refused why is = absurd (no_refusal_run why (ap has_run (sym is.0) ∙ ran))
+  refused why is = absurd (false_true (sym (no_run why) ∙ (ap has_run (sym is.0) ∙ ran)))
 
   whole : (files : List File) (reads : List FileCall) (bytes : List ℕ) (own : List StreamCall) (answer : Answer) → ReadsForms run.files (Ok files) reads → IsProgram files bytes → IsRunBy bytes run.budget own answer → IsAnswer call answer
       → Did call.doing call.old (map OnFiles reads ++ OnFiles (WriteCall run.output bytes (Ok tt)) ∷ map OnStream own) call.new → OfForm call run
@@ -188,9 +144,9 @@ module _ {I O F : Type 0} (call : Scene I O F) (means : Meaning call) (run : Run
 
   by_link : (files : List File) (reads : List FileCall) (r : Result Answer Refusal) (behind : List Call) → ReadsForms run.files (Ok files) reads → LinkCase run files r behind → IsAnswer call (answer_of r) → Did call.doing call.old (map OnFiles reads ++ behind) call.new → OfForm call run
   by_link files reads _ _ are (not_linked why h) is d = refused (Link why) is
-  by_link files reads _ _ are (ran_out own o) is d = refused Memory is
-  by_link files reads _ _ are (not_written bytes) is d = refused (StoreFault run.output) is
-  by_link files reads r _ are (written_and_run bytes program _ own s) is d =
+  by_link files reads _ _ are no_link is d = refused Memory is
+  by_link files reads _ _ are (has_linked bytes program _ _ (not_executed why own u)) is d = refused why is
+  by_link files reads r _ are (has_linked bytes program _ _ (ran_behind _ own s)) is d =
       let sim = runs.simulated bytes run.budget r own s in
       let own_answer : IsAnswer call sim.answer = subst (λ (x : Result Answer Refusal). IsAnswer call (answer_of x)) sim.is is in
       whole files reads bytes own sim.answer are program (sim.whole (λ e. seven (own_answer.0 ∙ e)) (λ e. eight (own_answer.0 ∙ e))) own_answer d

@@ -1,6 +1,5 @@
 -- The clause of `run`.
 use Rattle.std.proofs.Common.{◌≡◌, ◌≢◌, ℕ, true, false, List, [], ◌∷◌, map, Option, Some, Result, Ok, Err, inl, inr, refl, sym, ◌∙◌, ap, subst}
-use Rattle.std.specs.Prelude.{IsSomeAnd}
 use Rattle.p9_base.specs.Calls.{Call, OnFiles, Objects, Did}
 use Rattle.p9_base.specs.Outside.{Held}
 use Rattle.p9_form.specs.declared.file.File.{File}
@@ -9,11 +8,12 @@ use Rattle.p9_names.specs.Answers.{Joins}
 use Rattle.p9_names.specs.declared.table.LinkFault.{LinkFault}
 use Rattle.p9_names.specs.declared.table.LinkFault.TheVariants as links
 use Rattle.p9_share.specs.Symbols.{module_of}
-use Rattle.p9_suite.proofs.Calls.{reads_agree, reads_keep, of_store, of_streams, stands, split}
-use Rattle.p9_suite.proofs.RunCases.{LinkCase, not_linked, ran_out, not_written, written_and_run, RunCase, unread_forms, read_forms, run_case, forms_read}
+use Rattle.p9_suite.proofs.Calls.{reads_agree, reads_keep, of_store, split}
+use Rattle.p9_suite.proofs.RunCases.{LinkCase, not_linked, no_link, has_linked, RunCase, unread_forms, read_forms, run_case, forms_read}
 use Rattle.p9_suite.proofs.Exclusion.{absent_files, formless_files, absent_formless, refused_joined}
+use Rattle.p9_suite.proofs.Executed.{executed_says}
 use Rattle.p9_suite.proofs.Meaning.{Meaning}
-use Rattle.p9_suite.proofs.Told.{if_held, simulation_told, files_told, FirstFault, forms_fault}
+use Rattle.p9_suite.proofs.Told.{if_held, files_told, FirstFault, forms_fault}
 use Rattle.p9_suite.specs.Answers.{link_status}
 use Rattle.p9_suite.specs.Scene.{Scene, IsAnswer, held, has_run}
 use Rattle.p9_suite.specs.Suite.{Answered, Comes, CommandComes, answer_of, command}
@@ -48,13 +48,9 @@ module _ {I O F : Type 0} (call : Scene I O F) (means : Meaning call) (run : Run
 
   linked_way : (files : List File) → AreFiles before run.files files → (r : Result Answer Refusal) (calls : List Call) (middle : Objects I O F) → middle.input ≡ call.old.input → middle.out ≡ call.old.out → call.telling.held middle.files ≡ Some before → LinkCase run files r calls → Did call.doing middle calls call.new → IsAnswer call (answer_of r) → RunAnswer call run before
   linked_way files are _ _ middle i o h (not_linked why refused) d is = at_refused files are why ((λ e. ten (is.0 ∙ ap link_status e)), refused) is
-  linked_way files are _ _ middle i o h (ran_out own out) d is = absurd (ten is.0)
-  linked_way files are _ _ middle i o h (not_written bytes) d is = absurd (nine is.0)
-  linked_way files are r _ middle i o h (written_and_run bytes program _ own s) d is =
-      let streams = of_streams call.doing.takes call.doing.puts call.doing.stores own d.0 call.new d.2 in
-      let there = stands call.doing.takes call.doing.puts call.telling.held call.counts.store_faults call.doing.stores means.stores run.output bytes middle.files d.0.files before h d.1.0 in
-      at_run files are bytes program (subst (λ (x : Option Held). IsSomeAnd x (λ now. now run.output ≡ Some bytes)) (ap call.telling.held (sym streams.files)) there)
-      (simulation_told call means bytes run.budget r own d.0.input d.0.out (d.1.1 ∙ i) (d.1.2 ∙ o) streams.did s is)
+  linked_way files are _ _ middle i o h no_link d is = absurd (ten is.0)
+  linked_way files are r _ middle i o h (has_linked bytes program _ calls e) d is =
+      let says = executed_says call means before nine ten run.output run.budget bytes r calls middle i o h e d is in at_run files are bytes program says.0 says.1
 
   by_way : (r : Result Answer Refusal) (calls : List Call) → RunCase run r calls → Did call.doing call.old calls call.new → IsAnswer call (answer_of r) → RunAnswer call run before
   by_way _ _ (unread_forms why own s) d is =

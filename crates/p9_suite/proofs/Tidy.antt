@@ -1,27 +1,18 @@
 -- What the calls of a command are, whatever the command: stages that only read, and programs that ran.
 use Rattle.std.proofs.Common.{◌≡◌, ◌≢◌, ℕ, true, false, List, [], ◌∷◌, ◌++◌, map, take, Option, None, Result, Ok, Err, refl, sym, ◌∙◌, ap, subst, append-nil}
 use Rattle.std.proofs.lemmas.List.{map-append}
-use Rattle.p9_aout.specs.declared.format.AoutFault.{AoutFault}
-use Rattle.p9_aout.specs.declared.format.AoutFault.TheVariants as executables
-use Rattle.p9_asm.specs.declared.fault.AsmFault.{AsmFault}
-use Rattle.p9_asm.specs.declared.fault.AsmFault.TheVariants as assembly
 use Rattle.p9_base.specs.Calls.{Call, OnFiles, OnStream, StreamCall, Failing, CallsFine, CallsEnd}
 use Rattle.p9_base.specs.Outside.{FileCall, ReadCall}
 use Rattle.p9_base.specs.declared.outside.Got.TheVariants as got
-use Rattle.p9_lex.specs.declared.token.LexFault.{LexFault}
-use Rattle.p9_lex.specs.declared.token.LexFault.TheVariants as lexing
-use Rattle.p9_names.specs.declared.table.LinkFault.{LinkFault}
-use Rattle.p9_names.specs.declared.table.LinkFault.TheVariants as links
 use Rattle.p9_suite.proofs.Calls.{AreReads, reads_append, after_fine, names_append, names_streams, names_reads}
 use Rattle.p9_suite.proofs.Ran as runs
-use Rattle.p9_suite.specs.Answers.{status, refusal_status, link_status, executable_status, lex_status, assembly_status}
+use Rattle.p9_suite.specs.Answers.{status, refusal_status}
 use Rattle.p9_suite.specs.Scene.{failing_at, has_run, is_early, names_written}
 use Rattle.p9_suite.specs.Stages.{Stage, Then, stops, goes_on, ReadsFile, found, absent, read_fault, read_no_memory, name_no_memory}
 use Rattle.p9_suite.specs.Suite.{answer_of}
 use Rattle.p9_suite.specs.declared.answer.Answer.{Answer}
 use Rattle.p9_suite.specs.declared.answer.Answer.TheVariants.{Refused}
 use Rattle.p9_suite.specs.declared.answer.Refusal.{Refusal}
-use Rattle.p9_suite.specs.declared.answer.Refusal.TheVariants.{Absent, StoreFault, NotBuilt, Assembly, Link, Executable, Memory}
 
 -- Stages that only read
 
@@ -50,46 +41,6 @@ file_reads name _ _ absent = record { reads = tt; ends = (refl, tt) }
 file_reads name _ _ read_fault = record { reads = tt; ends = ([], OnFiles (ReadCall name got.Failed), refl, tt, refl) }
 file_reads name _ _ read_no_memory = record { reads = tt; ends = (refl, tt) }
 file_reads name _ _ name_no_memory = record { reads = tt; ends = tt }
-
--- Refusals
-
-pub link_fine : (why : LinkFault) → (link_status why ≢ 2) × (failing_at (link_status why) ≡ None)
-link_fine (links.Twice name i j) = ((λ e. cc), refl)
-link_fine links.NoMain = ((λ e. cc), refl)
-link_fine (links.MainType i) = ((λ e. cc), refl)
-link_fine (links.Unresolved name i) = ((λ e. cc), refl)
-link_fine (links.Disagree name i j) = ((λ e. cc), refl)
-link_fine links.Memory = ((λ e. cc), refl)
-
-pub executable_fine : (why : AoutFault) → (executable_status why ≢ 2) × (failing_at (executable_status why) ≡ None)
-executable_fine (executables.BadMagic magic) = ((λ e. cc), refl)
-executable_fine (executables.ShortFile need) = ((λ e. cc), refl)
-executable_fine executables.BadSegment = ((λ e. cc), refl)
-executable_fine executables.Memory = ((λ e. cc), refl)
-
-lex_fine : (why : LexFault) → (lex_status why ≢ 2) × (failing_at (lex_status why) ≡ None)
-lex_fine (lexing.BadByte at line) = ((λ e. cc), refl)
-lex_fine (lexing.OpenComment at line) = ((λ e. cc), refl)
-lex_fine (lexing.OpenText at line) = ((λ e. cc), refl)
-lex_fine (lexing.WideNumber at line) = ((λ e. cc), refl)
-lex_fine lexing.Memory = ((λ e. cc), refl)
-
-pub assembly_fine : (why : AsmFault) → (assembly_status why ≢ 2) × (failing_at (assembly_status why) ≡ None)
-assembly_fine (assembly.Lex why) = lex_fine why
-assembly_fine (assembly.AsmSyntax line) = ((λ e. cc), refl)
-assembly_fine (assembly.Reserved line register) = ((λ e. cc), refl)
-assembly_fine (assembly.NoLabel line name) = ((λ e. cc), refl)
-assembly_fine (assembly.LabelTwice line name) = ((λ e. cc), refl)
-assembly_fine assembly.Memory = ((λ e. cc), refl)
-
-pub no_usage : (why : Refusal) → refusal_status why ≢ 2
-no_usage (Absent name) e = cc
-no_usage (StoreFault name) e = cc
-no_usage (NotBuilt name) e = cc
-no_usage (Assembly name why) e = (assembly_fine why).0 e
-no_usage (Link why) e = (link_fine why).0 e
-no_usage (Executable name why) e = (executable_fine why).0 e
-no_usage Memory e = cc
 
 -- What the calls of a command are
 

@@ -7,7 +7,7 @@ use Rattle.p9_form.specs.declared.file.File.{File}
 use Rattle.p9_form.specs.Items.{items_of}
 use Rattle.p9_form.specs.Spelling.{HasForm}
 use Rattle.p9_suite.proofs.Calls.{AllAgree, agree_split}
-use Rattle.p9_suite.proofs.Forms.{split_reads}
+use Rattle.p9_suite.proofs.EachFile.{split_reads}
 use Rattle.p9_suite.proofs.Meaning.{Meaning, told_by}
 use Rattle.p9_suite.proofs.Ran as runs
 use Rattle.p9_suite.specs.Answers.{refusal_status}
@@ -65,9 +65,9 @@ form_told before name file _ (goes_on _ _ front behind (found bytes) t) a = (byt
 pub files_told : (before : Held) (names : List (List ℕ)) (files : List File) (own : List FileCall) → ReadsForms names (Ok files) own → AllAgree before own → AreFiles before names files
 files_told before [] files own g a = subst (AreFiles before []) (sym (ok_same g.0)) tt
 files_told before (name ∷ names) files own s a =
-    let p = split_reads name names files own s in
+    let p = split_reads ReadsForm name names files own s in
     let parts = agree_split before p.front p.behind (subst (AllAgree before) p.made a) in
-    let first = form_told before name p.file p.front p.first parts.0 in
+    let first = form_told before name p.value p.front p.first parts.0 in
     subst (AreFiles before (name ∷ names)) (sym p.are) (first.0, first.1, first.2, files_told before names p.others p.behind p.rest parts.1)
 
 -- the refusal of one file, and of the first of several

@@ -9,7 +9,8 @@ use Rattle.p9_base.specs.declared.outside.FileFault.TheVariants as store
 use Rattle.p9_base.specs.declared.outside.Got.TheVariants as got
 use Rattle.p9_object.specs.Fields.{spelling}
 use Rattle.p9_object.specs.Laws.{IsObject}
-use Rattle.p9_suite.proofs.Tidy.{Tidy, file_reads, reads_tidy, no_usage, assembly_fine}
+use Rattle.p9_suite.proofs.Refusals.{no_usage, assembly_fine}
+use Rattle.p9_suite.proofs.Tidy.{Tidy, file_reads, reads_tidy}
 use Rattle.p9_suite.specs.Answers.{status}
 use Rattle.p9_suite.specs.Stages.{stops, goes_on, ReadsFile, found, WritesFile, written, write_fault, write_no_memory, output_no_memory}
 use Rattle.p9_suite.specs.Suite.{answer_of}
@@ -70,7 +71,7 @@ unwritten_tidy va text m _ _ output_no_memory = record {
 va_way_tidy : (va : Va) (r : Result Answer Refusal) (own : List FileCall) → VaCase va r own → Tidy (va.output ∷ []) (answer_of r) (map OnFiles own)
 va_way_tidy va _ _ (unread why own s) = let o = file_reads va.file (Err why) own s in reads_tidy (va.output ∷ []) why own (record { reads = o.reads; ends = o.ends })
 va_way_tidy va _ _ (refused text why e) = record {
-  ends = subst (λ (f : Option Failing). CallsEnd (OnFiles (text_read va text) ∷ []) f) (sym (assembly_fine why).1) (refl, tt);
+  ends = subst (λ (f : Option Failing). CallsEnd (OnFiles (text_read va text) ∷ []) f) (sym (assembly_fine why).fine) (refl, tt);
   count = 0;
   writes = refl;
   early = λ _. refl;
@@ -94,7 +95,7 @@ va_way_tidy va _ _ (done text m is valid) = record {
 
 va_way_usual : (va : Va) (r : Result Answer Refusal) (own : List FileCall) → VaCase va r own → status (answer_of r) ≢ 2
 va_way_usual va _ _ (unread why own s) = no_usage why
-va_way_usual va _ _ (refused text why e) = (assembly_fine why).0
+va_way_usual va _ _ (refused text why e) = (assembly_fine why).usual
 va_way_usual va _ _ (not_assembled text) = no_usage Memory
 va_way_usual va _ _ (unwritten text m why own s) = no_usage why
 va_way_usual va _ _ (done text m is valid) = λ e. cc

@@ -6,7 +6,8 @@ use Rattle.p9_base.specs.Calls.{Call, OnFiles, OnStream, StreamCall, Failing, Ca
 use Rattle.p9_base.specs.Outside.{FileCall, ReadCall}
 use Rattle.p9_base.specs.declared.outside.Got.TheVariants as got
 use Rattle.p9_suite.proofs.Ran as runs
-use Rattle.p9_suite.proofs.Tidy.{Tidy, reads_tidy, ran_tidy, ran_usual, no_usage, executable_fine, file_reads}
+use Rattle.p9_suite.proofs.Refusals.{no_usage, executable_fine}
+use Rattle.p9_suite.proofs.Tidy.{Tidy, reads_tidy, ran_tidy, ran_usual, file_reads}
 use Rattle.p9_suite.specs.Answers.{status}
 use Rattle.p9_suite.specs.Simulation.{Simulates, RunsFile}
 use Rattle.p9_suite.specs.Stages.{stops, goes_on, OnStreams, ReadsFile, found, loaded, unloaded, load_no_memory}
@@ -40,7 +41,7 @@ vi_case vi r _ (goes_on bytes _ front behind (own, e, s) t) = subst (λ (x : Lis
 pub vi_tidy : (vi : Vi) (r : Result Answer Refusal) (calls : List Call) → ViCase vi r calls → Tidy [] (answer_of r) calls
 vi_tidy vi _ _ (unread why own s) = let o = file_reads vi.file (Err why) own s in reads_tidy [] why own (record { reads = o.reads; ends = o.ends })
 vi_tidy vi _ _ (refused bytes why e) = record {
-  ends = subst (λ (f : Option Failing). CallsEnd (OnFiles (ReadCall vi.file (got.Found bytes)) ∷ []) f) (sym (executable_fine why).1) (refl, tt);
+  ends = subst (λ (f : Option Failing). CallsEnd (OnFiles (ReadCall vi.file (got.Found bytes)) ∷ []) f) (sym (executable_fine why).fine) (refl, tt);
   count = 0;
   writes = refl;
   early = λ _. refl;
@@ -58,6 +59,6 @@ vi_tidy vi r _ (simulated bytes _ own s) =
 
 pub vi_usual : (vi : Vi) (r : Result Answer Refusal) (calls : List Call) → ViCase vi r calls → status (answer_of r) ≢ 2
 vi_usual vi _ _ (unread why own s) = no_usage why
-vi_usual vi _ _ (refused bytes why e) = (executable_fine why).0
+vi_usual vi _ _ (refused bytes why e) = (executable_fine why).usual
 vi_usual vi _ _ (no_machine bytes) = no_usage Memory
 vi_usual vi r _ (simulated bytes _ own s) = ran_usual bytes vi.budget r own (runs.simulated bytes vi.budget r own s)

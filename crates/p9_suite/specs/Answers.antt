@@ -10,14 +10,18 @@ use Rattle.p9_base.specs.declared.halt.HaltCause.{HaltCause}
 use Rattle.p9_base.specs.declared.halt.HaltCause.TheVariants as halts
 use Rattle.p9_lex.specs.declared.token.LexFault.{LexFault}
 use Rattle.p9_lex.specs.declared.token.LexFault.TheVariants as lexing
+use Rattle.p9_load.specs.declared.fault.LoadFault.{LoadFault}
+use Rattle.p9_load.specs.declared.fault.LoadFault.TheVariants as loads
 use Rattle.p9_names.specs.declared.table.LinkFault.{LinkFault}
 use Rattle.p9_names.specs.declared.table.LinkFault.TheVariants as links
+use Rattle.p9_reader.specs.declared.faults.ObjFault.{ObjFault}
+use Rattle.p9_reader.specs.declared.faults.ObjFault.TheVariants as objects
 use Rattle.p9_suite.specs.declared.answer.Answer.{Answer}
 use Rattle.p9_suite.specs.declared.answer.Answer.TheVariants.{Done, Usage, Refused, Ran}
 use Rattle.p9_suite.specs.declared.answer.End.{End}
 use Rattle.p9_suite.specs.declared.answer.End.TheVariants.{Exit, ReadFault, WriteFault, Halted, Spent}
 use Rattle.p9_suite.specs.declared.answer.Refusal.{Refusal}
-use Rattle.p9_suite.specs.declared.answer.Refusal.TheVariants.{Absent, StoreFault, NotBuilt, Assembly, Link, Executable, Memory}
+use Rattle.p9_suite.specs.declared.answer.Refusal.TheVariants.{Absent, StoreFault, NotBuilt, Assembly, Object, Link, Load, Executable, Memory}
 
 -- Statuses
 
@@ -28,6 +32,21 @@ link_status (links.MainType i) = 5
 link_status (links.Unresolved name i) = 5
 link_status (links.Disagree name i j) = 5
 link_status links.Memory = 10
+
+abbrev pub load_status : LoadFault → ℕ
+load_status (loads.Twice name i j) = 5
+load_status loads.NoMain = 5
+load_status (loads.MainType i) = 5
+load_status (loads.Unresolved name i) = 5
+load_status (loads.Disagree name i j) = 5
+load_status (loads.DataTooLarge bytes) = 5
+load_status (loads.TextTooLarge words) = 5
+load_status loads.Memory = 10
+
+abbrev pub object_status : ObjFault → ℕ
+object_status (objects.BadObject at) = 4
+object_status (objects.Version version) = 4
+object_status objects.Memory = 10
 
 abbrev pub executable_status : AoutFault → ℕ
 executable_status (executables.BadMagic magic) = 13
@@ -52,7 +71,9 @@ assembly_status assembly.Memory = 10
 
 abbrev pub refusal_status : Refusal → ℕ
 refusal_status (Assembly file why) = assembly_status why
+refusal_status (Object file why) = object_status why
 refusal_status (Link why) = link_status why
+refusal_status (Load why) = load_status why
 refusal_status (Absent file) = 6
 refusal_status (StoreFault file) = 9
 refusal_status Memory = 10
@@ -101,13 +122,45 @@ cause_text (halts.BadCall number) = codes "BadCall " ++ decimal number
 abbrev pub no_memory : List ℕ
 no_memory = codes "no memory" ++ newline
 
+-- Modules that are refused are told by their numbers.
+
+abbrev pub twice_line : (name : List ℕ) (i j : ℕ) → List ℕ
+twice_line name i j = codes "vl: 40 Twice " ++ (name ++ (blank ++ (decimal i ++ (blank ++ (decimal j ++ newline)))))
+
+abbrev pub unresolved_line : (name : List ℕ) (i : ℕ) → List ℕ
+unresolved_line name i = codes "vl: 41 Unresolved " ++ (name ++ (blank ++ (decimal i ++ newline)))
+
+abbrev pub disagree_line : (name : List ℕ) (i j : ℕ) → List ℕ
+disagree_line name i j = codes "vl: 42 Disagree " ++ (name ++ (blank ++ (decimal i ++ (blank ++ (decimal j ++ newline)))))
+
+abbrev pub no_main_line : List ℕ
+no_main_line = codes "vl: 43 NoMain" ++ newline
+
+abbrev pub main_type_line : (i : ℕ) → List ℕ
+main_type_line i = codes "vl: 44 MainType " ++ (decimal i ++ newline)
+
 abbrev pub link_line : LinkFault → List ℕ
-link_line (links.Twice name i j) = codes "vl: 40 Twice " ++ (name ++ (blank ++ (decimal i ++ (blank ++ (decimal j ++ newline)))))
-link_line (links.Unresolved name i) = codes "vl: 41 Unresolved " ++ (name ++ (blank ++ (decimal i ++ newline)))
-link_line (links.Disagree name i j) = codes "vl: 42 Disagree " ++ (name ++ (blank ++ (decimal i ++ (blank ++ (decimal j ++ newline)))))
-link_line links.NoMain = codes "vl: 43 NoMain" ++ newline
-link_line (links.MainType i) = codes "vl: 44 MainType " ++ (decimal i ++ newline)
+link_line (links.Twice name i j) = twice_line name i j
+link_line (links.Unresolved name i) = unresolved_line name i
+link_line (links.Disagree name i j) = disagree_line name i j
+link_line links.NoMain = no_main_line
+link_line (links.MainType i) = main_type_line i
 link_line links.Memory = no_memory
+
+abbrev pub load_line : LoadFault → List ℕ
+load_line (loads.Twice name i j) = twice_line name i j
+load_line (loads.Unresolved name i) = unresolved_line name i
+load_line (loads.Disagree name i j) = disagree_line name i j
+load_line loads.NoMain = no_main_line
+load_line (loads.MainType i) = main_type_line i
+load_line (loads.DataTooLarge bytes) = codes "vl: 45 DataTooLarge " ++ (decimal bytes ++ newline)
+load_line (loads.TextTooLarge words) = codes "vl: 46 TextTooLarge " ++ (decimal words ++ newline)
+load_line loads.Memory = no_memory
+
+abbrev pub object_line : (file : List ℕ) → ObjFault → List ℕ
+object_line file (objects.BadObject at) = file ++ (codes ": 30 BadObject " ++ (decimal at ++ newline))
+object_line file (objects.Version version) = file ++ (codes ": 31 Version " ++ (decimal version ++ newline))
+object_line file objects.Memory = no_memory
 
 abbrev pub executable_line : (file : List ℕ) → AoutFault → List ℕ
 executable_line file (executables.BadMagic magic) = file ++ (codes ": 50 BadMagic " ++ (decimal magic ++ newline))
@@ -136,7 +189,9 @@ assembly_line file assembly.Memory = no_memory
 
 abbrev pub refusal_line : Refusal → List ℕ
 refusal_line (Assembly file why) = assembly_line file why
+refusal_line (Object file why) = object_line file why
 refusal_line (Link why) = link_line why
+refusal_line (Load why) = load_line why
 refusal_line (Absent file) = file ++ (codes ": absent" ++ newline)
 refusal_line (StoreFault file) = file ++ (codes ": store fault" ++ newline)
 refusal_line Memory = no_memory

@@ -1,5 +1,6 @@
 pub mod Answers
 pub mod CommandLine
+pub mod Requests
 pub mod Reports
 pub mod Stages
 pub mod Simulation

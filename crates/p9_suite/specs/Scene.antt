@@ -74,7 +74,7 @@ has_run s = s == 0 || s == 1 || s == 7 || s == 8 || s == 11 || s == 12
 
 -- the statuses of refusals that come before each write
 abbrev pub is_early : ℕ → Bool
-is_early s = s == 2 || s == 3 || s == 5 || s == 6 || s == 13 || s == 16
+is_early s = s == 2 || s == 3 || s == 4 || s == 5 || s == 6 || s == 13 || s == 16
 
 -- the names that calls write, in order
 abbrev pub names_written : List Call → List (List ℕ)

@@ -2,7 +2,7 @@
 use Rattle.std.specs.Prelude.{◌≡◌, ◌<◌, ◌≤◌, ℕ, List, [], ◌∷◌, ◌++◌, Some, Result, Ok}
 use Rattle.p9_aout.specs.Image.{ImageParts, image_of}
 use Rattle.p9_base.specs.CallBytes.{Stretch, calls_of, steps_of, IsSteady, brought_in, written_in}
-use Rattle.p9_base.specs.Calls.{StreamCall, StreamsFine, StreamsEnd, Failing, Input, Out}
+use Rattle.p9_base.specs.Calls.{Call, StreamCall, StreamsFine, StreamsEnd, Failing, Input, Out}
 use Rattle.p9_base.specs.Core.{Core}
 use Rattle.p9_base.specs.SystemCalls.{state, exit_text}
 use Rattle.p9_base.specs.declared.halt.Ending.{Ending}
@@ -15,7 +15,7 @@ use Rattle.p9_suite.specs.declared.answer.Answer.{Answer}
 use Rattle.p9_suite.specs.declared.answer.Answer.TheVariants.{Done, Ran}
 use Rattle.p9_suite.specs.declared.answer.End.TheVariants.{Exit, ReadFault, WriteFault, Halted, Spent}
 use Rattle.p9_suite.specs.declared.answer.Refusal.{Refusal}
-use Rattle.p9_suite.specs.Stages.{Stage, Then, Loads}
+use Rattle.p9_suite.specs.Stages.{Stage, Then, OnStore, OnStreams, WritesFile, Loads}
 
 -- the answer to a program's text
 abbrev pub exit_answer : List ℕ → Answer
@@ -84,3 +84,7 @@ pub data Simulates (file : List ℕ) (budget : ℕ) : Result Answer Refusal → 
 -- a file's bytes are taken as an executable, and simulated
 abbrev pub RunsFile : (name bytes : List ℕ) (budget : ℕ) → Stage StreamCall Answer
 RunsFile name bytes budget = Then (Loads name bytes) (λ parts. Simulates bytes budget)
+
+-- bytes are written as a file, and the same bytes are simulated
+abbrev pub WritesAndRuns : (output : List ℕ) (budget : ℕ) (bytes : List ℕ) → Stage Call Answer
+WritesAndRuns output budget bytes = Then (OnStore (WritesFile output bytes)) (λ _. OnStreams (RunsFile output bytes budget))

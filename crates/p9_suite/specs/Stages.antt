@@ -24,6 +24,11 @@ pub data Then {C A B : Type 0} (first : Stage C A) (next : A → Stage C B) : Re
 abbrev pub Gives : {C A : Type 0} → A → Stage C A
 Gives value result calls = (result ≡ Ok value) × (calls ≡ [])
 
+-- a stage for each of these, one after the other
+abbrev pub Each : {C A : Type 0} → (stage : List ℕ → Stage C A) → (names : List (List ℕ)) → Stage C (List A)
+Each stage [] = Gives []
+Each stage (name ∷ names) = Then (stage name) (λ value. Then (Each stage names) (λ values. Gives (value ∷ values)))
+
 -- a stage that makes its calls on the store alone, or on the source and the sink alone, among the others
 abbrev pub OnStore : {A : Type 0} → Stage FileCall A → Stage Call A
 OnStore stage result calls = (own : List FileCall) × (calls ≡ map OnFiles own) × stage result own

@@ -3,7 +3,9 @@ use crate::message::Message;
 use p9_aout::AoutFault;
 use p9_asm::AsmFault;
 use p9_base::{HaltCause, Name, NoMemory};
+use p9_load::LoadFault;
 use p9_names::LinkFault;
+use p9_reader::ObjFault;
 
 /// The answer of a command, with what its line prints.
 #[derive(Drop)]
@@ -29,8 +31,12 @@ pub enum Refusal {
     NotBuilt(Name),
     /// This assembler file is refused.
     Assembly(Name, AsmFault),
-    /// The modules don't join.
+    /// This file is no object.
+    Object(Name, ObjFault),
+    /// The modules of C files don't join.
     Link(LinkFault),
+    /// The modules don't join, or don't fit.
+    Load(LoadFault),
     /// This file is no executable.
     Executable(Name, AoutFault),
     /// Memory ran out.

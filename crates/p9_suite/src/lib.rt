@@ -7,6 +7,7 @@ mod copied;
 mod halt;
 mod message;
 mod number;
+mod options;
 mod put;
 mod report;
 mod source;

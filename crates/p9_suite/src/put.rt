@@ -74,6 +74,20 @@ pub(crate) fn put_number_line<S: Sink>(sink: &mut S, front: &[u8], number: u64) 
     put_three(sink, front, buffer.format(number).as_bytes(), b"\n")
 }
 
+/// Puts a file's name, a fault, a decimal number and a newline.
+#[tactic(auto, using(crate::proofs::Puts::then_put, crate::proofs::Puts::first_cut))]
+pub(crate) fn put_numbered<S: Sink>(sink: &mut S, file: &[u8], fault: &[u8], number: u64) -> bool
+    ensures { MatchBool result
+        (Whole (S.sofar sink.old) (S.sofar sink.new) (S.faults sink.old) (S.faults sink.new) (file.now ++ (fault.now ++ (decimal number ++ newline))))
+        (Cut (S.sofar sink.old) (S.sofar sink.new) (S.faults sink.old) (S.faults sink.new) (file.now ++ (fault.now ++ (decimal number ++ newline)))) }
+{
+    if put_all(sink, file) {
+        put_number_line(sink, fault, number)
+    } else {
+        false
+    }
+}
+
 // An address, as eight hexadecimal digits.
 fn address(a: u32) -> [u8; 8]
     ensures { result ≡ address a }

@@ -1,4 +1,5 @@
 // Commands over memory.
+mod loading;
 mod objects;
 
 use crate::suite;
@@ -230,7 +231,7 @@ fn refused(rt: HostRuntime) -> Result<(), Fail> {
         refusal(b"run", &text, 2, b"usage\n"),
         refusal(b"vc", &text, 2, b"usage\n"),
         refusal(b"run -x.c", &text, 2, b"usage\n"),
-        refusal(b"run x.c x", &text, 2, b"usage\n"),
+        refusal(b"run x.c x", &text, 16, b"x.c: not built\n"),
     ];
     for row in rows {
         let outcome = result_of(rt.alloc(), row.line, row.sources, row.fails)?;

@@ -1,8 +1,9 @@
 // Words of a command line that name files.
-ghost use Rattle.std.specs.Prelude.{◌≡◌, IfOk};
-ghost use Rattle.p9_suite.specs.CommandLine.{is_assembly, is_file, is_source, object_name};
+ghost use Rattle.std.specs.Prelude.{◌≡◌, IfOk, MatchOption, Some, None};
+ghost use Rattle.std.specs.List.{list_all};
+ghost use Rattle.p9_suite.specs.CommandLine.{first_source, is_assembly, is_file, is_source, object_name};
 
-use p9_base::{Bytes, NoMemory};
+use p9_base::{Bytes, Name, NoMemory};
 use std::alloc::Global;
 
 /// Whether a word names a file.
@@ -17,6 +18,34 @@ pub(crate) fn is_source(word: &[u8]) -> bool
     ensures { result ≡ is_source word.now }
 {
     word.ends_with(b".c") && !word.starts_with(b"-")
+}
+
+/// Whether all of these words name C sources.
+pub(crate) fn are_sources(words: &[Name]) -> bool
+    ensures { result ≡ list_all is_source words.now }
+{
+    let mut rest = words;
+    while let [word, after @ ..] = rest {
+        if !is_source(&word.list) {
+            return false;
+        }
+        rest = after;
+    }
+    true
+}
+
+/// The first of these words that names a C source.
+pub(crate) fn first_source(words: &[Name]) -> Option<&Name>
+    ensures { MatchOption result (first_source words.now ≡ None) (λ file. first_source words.now ≡ Some file.now) }
+{
+    let mut rest = words;
+    while let [word, after @ ..] = rest {
+        if is_source(&word.list) {
+            return Some(word);
+        }
+        rest = after;
+    }
+    None
 }
 
 /// Whether a word names an assembler file.

@@ -17,11 +17,10 @@ use Rattle.p9_tree.specs.declared.tree.BinOp.TheVariants as bin
 use Rattle.p9_tree.specs.Trees.{Tree, Const, Addr, Auto, Load, Store, Update, Copy, Un, Bin, Conv, Choose, Both, Step, Seq, Call}
 use Rattle.p9_tree.specs.Operations.{narrowed_to, operator_of, is_unsigned_form}
 use Rattle.p9_tree.specs.Modules.{Entry}
-use Rattle.p9_tree.specs.TRun.{symbol_pointer}
-use Rattle.p9_cmean.specs.Cells.{Cell, Byte}
+use Rattle.p9_cmean.specs.Cells.{Pointer, Cell, Byte}
 use Rattle.p9_cmean.specs.Access.{number_cells}
-use Rattle.p9_cmean.specs.Union.{Union}
-use Rattle.p9_cmean.specs.FirstContents.{address_cells, with_entry}
+use Rattle.p9_cmean.specs.Union.{Union, static_number}
+use Rattle.p9_cmean.specs.FirstContents.{into, named_pointer, address_cells, with_entry}
 
 -- a tree as it is before the program runs: a number; the address of a symbol, moved; or nothing fixed
 pub data Fixed : Type 0 where
@@ -144,10 +143,19 @@ abbrev pub writes_of : List Entry → Result (List Write) BrokenItem
 writes_of [] = Ok []
 writes_of (e ∷ es) = with_write (entry_write e) (writes_of es)
 
+-- what a symbol's address is before the program runs: as in the sources, a name that no module defines counts as a function's
+abbrev pub first_pointer : Union → (owner : ℕ) → Option Symbol → (offset : ℕ) → Option Pointer
+first_pointer union owner None offset = None
+first_pointer union owner (Some symbol) offset = by symbol.static
+  where
+    by : Option ℕ → Option Pointer
+    by None = Some (named_pointer union owner symbol.name offset)
+    by (Some number) = into (static_number union owner number) offset
+
 -- the cells that a list of writes leaves in an object that began as zeros
 abbrev pub content_cells : Union → (owner : ℕ) → List Symbol → (size : ℕ) → Content → List Cell
 content_cells union owner symbols size (Word word) = number_cells size word
-content_cells union owner symbols size (AddressOf symbol offset) = address_cells (symbol_pointer union owner (slice_get symbols symbol) offset)
+content_cells union owner symbols size (AddressOf symbol offset) = address_cells (first_pointer union owner (slice_get symbols symbol) offset)
 
 abbrev pub with_writes : Union → (owner : ℕ) → List Symbol → Tags → List Write → List Cell → List Cell
 with_writes union owner symbols tags [] cells = cells

@@ -1,8 +1,8 @@
 mod Arithmetic
-mod Shapes
+pub mod Shapes
 mod ArrayElements
 mod AlikeExtents
-mod Lists
+pub mod Lists
 mod Weights
 mod Advancing
 mod TagsAt

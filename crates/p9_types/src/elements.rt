@@ -11,13 +11,14 @@ use p9_lang::CType;
 
 /// Elements of one type, and how many.
 #[derive(Clone, Copy)]
-pub(crate) struct Elements<'a> {
-    pub(crate) ty: &'a CType,
-    pub(crate) count: u32,
+pub struct Elements<'a> {
+    pub ty: &'a CType,
+    pub count: u32,
 }
 
+/// An array's elements, at its outermost.
 #[tactic(auto, using(crate::proofs::Shapes::shapes))]
-pub(crate) fn array_elements(ty: &CType) -> Option<Elements<'_>>
+pub fn array_elements(ty: &CType) -> Option<Elements<'_>>
     ensures { MatchOption result (is_array (type_of ty.now) ≡ false) (λ e.
         type_of ty.now ≡ Array (type_of e.ty.now) e.count) }
 {

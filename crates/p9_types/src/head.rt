@@ -48,7 +48,7 @@ pub(crate) fn head(ty: &CType) -> TypeHead
 
 /// What a pointer points to.
 #[tactic(auto, using(crate::proofs::Shapes::shapes))]
-pub(crate) fn target_of(ty: &CType) -> Option<&CType>
+pub fn target_of(ty: &CType) -> Option<&CType>
     ensures { MatchOption result (is_pointer (type_of ty.now) ≡ false) (λ t. type_of ty.now ≡ Pointer (type_of t.now)) }
 {
     match ty {
@@ -70,7 +70,7 @@ pub(crate) fn target_of(ty: &CType) -> Option<&CType>
 
 /// A function's result and parameters.
 #[tactic(auto, using(crate::proofs::Shapes::shapes))]
-pub(crate) fn signature_of<'a>(ty: &'a CType) -> Option<(&'a CType, &'a [CType])>
+pub fn signature_of<'a>(ty: &'a CType) -> Option<(&'a CType, &'a [CType])>
     ensures { MatchOption result (is_function (type_of ty.now) ≡ false) (λ f.
         type_of ty.now ≡ Function (type_of f.0.now) (type_row (types_of f.1.now))) }
 {
@@ -95,7 +95,7 @@ pub(crate) fn signature_of<'a>(ty: &'a CType) -> Option<(&'a CType, &'a [CType])
 
 /// A structure's or union's number.
 #[tactic(auto, using(crate::proofs::Shapes::shapes))]
-pub(crate) fn number_of(ty: &CType) -> Option<u32>
+pub fn number_of(ty: &CType) -> Option<u32>
     ensures { MatchOption result (is_structure (type_of ty.now) ≡ false) (λ n. type_of ty.now ≡ Tagged n) }
 {
     match ty {
@@ -117,7 +117,7 @@ pub(crate) fn number_of(ty: &CType) -> Option<u32>
 
 /// An integer type.
 #[tactic(auto, using(crate::proofs::Shapes::shapes))]
-pub(crate) fn is_integer(ty: &CType) -> bool
+pub fn is_integer(ty: &CType) -> bool
     ensures { result ≡ is_integer (type_of ty.now) }
 {
     match ty {
@@ -139,7 +139,7 @@ pub(crate) fn is_integer(ty: &CType) -> bool
 
 /// A pointer type.
 #[tactic(auto, using(crate::proofs::Shapes::shapes))]
-pub(crate) fn is_pointer(ty: &CType) -> bool
+pub fn is_pointer(ty: &CType) -> bool
     ensures { result ≡ is_pointer (type_of ty.now) }
 {
     match ty {
@@ -161,7 +161,7 @@ pub(crate) fn is_pointer(ty: &CType) -> bool
 
 /// A type of objects: neither void nor a function.
 #[tactic(auto, using(crate::proofs::Shapes::shapes))]
-pub(crate) fn is_object(ty: &CType) -> bool
+pub fn is_object(ty: &CType) -> bool
     ensures { result ≡ is_object (type_of ty.now) }
 {
     match ty {
@@ -182,7 +182,7 @@ pub(crate) fn is_object(ty: &CType) -> bool
 
 /// Void.
 #[tactic(auto, using(crate::proofs::Shapes::shapes))]
-pub(crate) fn is_void(ty: &CType) -> bool
+pub fn is_void(ty: &CType) -> bool
     ensures { result ≡ is_void (type_of ty.now) }
 {
     match ty {

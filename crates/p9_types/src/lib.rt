@@ -22,7 +22,11 @@ mod substructure;
 mod tests;
 
 pub use converting::{Conv, convert};
+pub use elements::{Elements, array_elements};
 pub use fault::TypeFault;
 pub use finding::{Found, find_member};
+pub use head::{is_integer, is_object, is_pointer, is_void, number_of, signature_of, target_of};
 pub use laying::layout;
 pub use layouts::Layout;
+pub use reaching::tag_at;
+pub use same::same_type;

@@ -23,7 +23,8 @@ pub(crate) enum Task {
     Finish(u32),
 }
 
-pub(crate) fn tag_at(tags: &[Tag], number: u32) -> Option<&Tag>
+/// The structure or union with this number.
+pub fn tag_at(tags: &[Tag], number: u32) -> Option<&Tag>
     ensures { MatchOption result (slice_get (tags_of tags.now) number ≡ None) (λ tag.
         slice_get (tags_of tags.now) number ≡ Some (tag_of tag.now)) }
 {

@@ -126,7 +126,7 @@ fn put_parts<'a>(pairs: &mut Vec<Pair<'a>>, pair: Pair<'a>) -> Result<bool, NoMe
 }
 
 /// Whether two types are equal: built alike over the same structures and unions.
-pub(crate) fn same_type(alloc: Global, left: &CType, right: &CType) -> Result<bool, NoMemory>
+pub fn same_type(alloc: Global, left: &CType, right: &CType) -> Result<bool, NoMemory>
     ensures { IfOk result (λ same. same ≡ same_type (type_of left.now) (type_of right.now)) }
 {
     let mut pairs = Vec::new(alloc);

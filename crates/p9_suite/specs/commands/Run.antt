@@ -1,6 +1,5 @@
--- The command `run`: files are read in order and compiled, the executable is written, and then simulated.
-use Rattle.std.specs.Prelude.{◌≡◌, ◌≢◌, ◌≤◌, ◌⊎◌, ◌↔◌, ℕ, true, List, [], ◌∷◌, ◌++◌, map, length, ◌&&◌, nat_le, Option, Some, None, IfSome, IsSomeAnd, if◌then◌else◌, codes, Result, Ok, Err}
-use Rattle.std.specs.List.{list_all}
+-- The command `run` of C sources: files are read in order and compiled, the executable is written, and then simulated.
+use Rattle.std.specs.Prelude.{◌≡◌, ◌≢◌, ◌≤◌, ◌⊎◌, ◌↔◌, ℕ, true, List, [], ◌∷◌, ◌++◌, map, length, nat_le, Option, Some, None, IfSome, IsSomeAnd, if◌then◌else◌, Result, Ok, Err}
 use Rattle.p9_abs.specs.BuiltIn.{linked}
 use Rattle.p9_agree.specs.Depth.{IsNotDeep}
 use Rattle.p9_agree.specs.Modules.{IsModuleOf, AreModulesOf}
@@ -31,10 +30,10 @@ use Rattle.p9_suite.specs.declared.answer.Answer.TheVariants.{Refused}
 use Rattle.p9_suite.specs.declared.answer.Refusal.{Refusal}
 use Rattle.p9_suite.specs.declared.answer.Refusal.TheVariants.{Absent, NotBuilt, Link, Memory}
 use Rattle.p9_suite.specs.declared.commands.run.request.Run as declared
-use Rattle.p9_suite.specs.CommandLine.{is_source}
+use Rattle.p9_suite.specs.CommandLine.{Budgeted}
 use Rattle.p9_suite.specs.Scene.{Scene, IsAnswer, HasPut, held, held_now, left, left_now, has_run}
-use Rattle.p9_suite.specs.Simulation.{RunsFile, IsRunBy, exit_answer}
-use Rattle.p9_suite.specs.Stages.{Stage, Then, Gives, OnStore, OnStreams, ReadsFile, WritesFile}
+use Rattle.p9_suite.specs.Simulation.{WritesAndRuns, IsRunBy, exit_answer}
+use Rattle.p9_suite.specs.Stages.{Stage, Then, Each, OnStore, ReadsFile}
 use Rattle.p9_suite.specs.Told.{OfRun}
 
 -- The words
@@ -45,11 +44,11 @@ pub record Run : Type 0 where
   pub output : List ℕ
   pub files : List (List ℕ)
 
--- the words behind `run` are 1 to 16 sources
-abbrev pub run_of : (words : List (List ℕ)) → Option Run
+-- of C sources alone there are at most 16
+abbrev pub run_of : Budgeted → Option Run
 run_of words =
-    if nat_le 1 (length words) && (nat_le (length words) 16 && list_all is_source words)
-    then Some (record { budget = DEFAULT_BUDGET; output = codes "v.out"; files = words }) else None
+    if nat_le (length words.made.files) 16
+    then Some (record { budget = words.budget; output = words.made.output; files = words.made.files }) else None
 
 -- the code's value stands for this
 abbrev pub run_seen : declared.Run → Run
@@ -66,10 +65,8 @@ pub data TakesForm {C : Type 0} (name bytes : List ℕ) : Result File Refusal �
 abbrev pub ReadsForm : (name : List ℕ) → Stage FileCall File
 ReadsForm name = Then (ReadsFile name) (TakesForm name)
 
--- the files at the names, one after the other
 abbrev pub ReadsForms : (names : List (List ℕ)) → Stage FileCall (List File)
-ReadsForms [] = Gives []
-ReadsForms (name ∷ names) = Then (ReadsForm name) (λ file. Then (ReadsForms names) (λ files. Gives (file ∷ files)))
+ReadsForms = Each ReadsForm
 
 -- The executable
 
@@ -90,9 +87,6 @@ pub data Links {C : Type 0} (files : List File) : Result (List ℕ) Refusal → 
   link_no_memory : Links files (Err Memory) []
 
 -- The stages
-
-abbrev pub WritesAndRuns : (output : List ℕ) (budget : ℕ) (bytes : List ℕ) → Stage Call Answer
-WritesAndRuns output budget bytes = Then (OnStore (WritesFile output bytes)) (λ _. OnStreams (RunsFile output bytes budget))
 
 abbrev pub LinksAndRuns : (output : List ℕ) (budget : ℕ) → List File → Stage Call Answer
 LinksAndRuns output budget files = Then (Links files) (WritesAndRuns output budget)

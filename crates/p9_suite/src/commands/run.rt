@@ -1,55 +1,40 @@
 // The command `run`.
 ghost use Rattle.std.specs.Prelude.{◌≡◌, ◌≤◌, [], length, All, MatchOption, Some, None};
-ghost use Rattle.std.specs.List.{list_all};
 ghost use Rattle.p9_base.specs.Calls.{Call};
 ghost use Rattle.p9_base.specs.Outside.{FileCall};
 ghost use Rattle.p9_first.specs.Form.{IsFile};
 ghost use Rattle.p9_form.specs.Items.{items_of};
 ghost use Rattle.p9_form.specs.Sharing.{IsSmall};
-ghost use Rattle.p9_suite.specs.CommandLine.{is_source};
+ghost use Rattle.p9_suite.specs.Requests.{budgeted_seen};
 ghost use Rattle.p9_suite.specs.Scene.{doing, objects};
 ghost use Rattle.p9_suite.specs.Stages.{Makes, MakesOnStore};
-ghost use Rattle.p9_suite.specs.commands.Run.{Links, LinksAndRuns, ReadsForm, ReadsForms, RunStages, TakesForm, WritesAndRuns, run_of, run_seen};
+ghost use Rattle.p9_suite.specs.commands.Run.{Links, LinksAndRuns, ReadsForm, ReadsForms, RunStages, TakesForm, run_of, run_seen};
 
 mod request;
 
 use crate::answer::{Answer, Refusal};
 pub(crate) use crate::commands::run::request::Run;
-use crate::stages::{read_file, run_file, write_file};
-use crate::words::is_source;
+use crate::options::{Budgeted, Named};
+use crate::stages::{read_file, write_and_run};
 use p9_base::{Bytes, Files, Name, Sink, Source};
 use p9_form::{File, FileList};
-use p9_headline::DEFAULT_BUDGET;
 use p9_share::join;
 use p9_straight::compile;
 use std::alloc::Global;
 
-/// `run` takes so many files at most.
+/// `run` takes so many C sources at most.
 const MOST_FILES: usize = 16;
 
-// Whether all of these words name C sources.
-fn are_sources(files: &[Name]) -> bool
-    ensures { result ≡ list_all is_source files.now }
+/// `run` of C sources.
+pub(crate) fn run_of(words: Budgeted<'_>) -> Option<Run<'_>>
+    ensures { MatchOption result (run_of (budgeted_seen words.entry) ≡ None) (λ run. run_of (budgeted_seen words.entry) ≡ Some (run_seen run)) }
 {
-    let mut rest = files;
-    while let [file, after @ ..] = rest {
-        if !is_source(&file.list) {
-            return false;
-        }
-        rest = after;
-    }
-    true
-}
-
-/// The words behind `run`.
-pub(crate) fn run_of(words: &[Name]) -> Option<Run<'_>>
-    ensures { MatchOption result (run_of words.now ≡ None) (λ run. run_of words.now ≡ Some (run_seen run)) }
-{
-    if 1 <= words.len() && words.len() <= MOST_FILES && are_sources(words) {
+    let Named { output, files } = words.made;
+    if files.len() <= MOST_FILES {
         Some(Run {
-            budget: DEFAULT_BUDGET,
-            output: b"v.out",
-            files: words,
+            budget: words.budget,
+            output,
+            files,
         })
     } else {
         None
@@ -101,23 +86,6 @@ fn link(alloc: Global, list: &FileList) -> Result<Bytes, Refusal>
         Ok(()) => Ok(compile(alloc, list)?),
         Err(why) => Err(Refusal::Link(why)),
     }
-}
-
-// Writes an executable and simulates it.
-fn write_and_run<I: Source, O: Sink, F: Files>(
-    alloc: Global,
-    bytes: &Bytes,
-    output: &[u8],
-    budget: u32,
-    input: &mut I,
-    out: &mut O,
-    files: &mut F,
-) -> Result<Answer, Refusal>
-    ensures { Makes (doing I.did O.did F.did) (objects input.old out.old files.old) (objects input.new out.new files.new)
-        (WritesAndRuns output.now budget bytes.now) result }
-{
-    write_file(alloc, output, bytes, files)?;
-    run_file(alloc, output, bytes, budget, input, out)
 }
 
 // Joins and compiles files, writes the executable and simulates it.

@@ -69,8 +69,8 @@ fn refusal(alloc: Global, name: &Name, why: AsmFault) -> Refusal
     }
 }
 
-// The object of a file's text. A refusal names the file by `name`.
-fn object_of(alloc: Global, name: &Name, text: &Bytes) -> Result<Bytes, Refusal>
+/// The object of a file's text. A refusal names the file by `name`.
+pub(crate) fn object_of(alloc: Global, name: &Name, text: &Bytes) -> Result<Bytes, Refusal>
     ensures { Assembles {C = FileCall} name.now text.now result [] }
 {
     match assemble(alloc, &text.list) {

@@ -17,16 +17,16 @@ returns-in_err-places-clause-refused_exactly c = λ fault n r.
     subst (λ (x : Result Expansion LoadFault). IsOneOf Expansion x fault LoadFault.Memory) (sym e)
     (place-exact c.args.modules.now.items c.in_ok-table.table c.in_err-places.field-0.0 c.in_ok-table.ensures.refused_exactly c.in_err-places.ensures.refused_exactly c.in_err-places.ensures.placed_exactly fault n r))
 
-pub returns-in_err-lines-clause-refused_exactly : goal.returns-in_err-lines-clause-refused_exactly
-returns-in_err-lines-clause-refused_exactly c = λ fault n r.
-    (let e : c.from_residual-in_err-lines.result ≡ Err (of_expand c.in_err-lines.field-0.0) = grind arith in
+pub returns-in_err-program-clause-refused_exactly : goal.returns-in_err-program-clause-refused_exactly
+returns-in_err-program-clause-refused_exactly c = λ fault n r.
+    (let e : c.from_residual-in_err-program.result ≡ Err (of_expand c.in_err-program.field-0.0) = grind arith in
     subst (λ (x : Result Expansion LoadFault). IsOneOf Expansion x fault LoadFault.Memory) (sym e)
-    (expand-exact c.args.modules.now.items c.in_ok-table.table c.in_ok-places.places c.in_err-lines.field-0.0 c.in_ok-table.ensures.refused_exactly c.in_ok-places.ensures.refused_exactly c.in_err-lines.ensures.refused_exactly fault n r))
+    (expand-exact c.args.modules.now.items c.in_ok-table.table c.in_ok-places.places c.in_err-program.field-0.0 c.in_ok-table.ensures.refused_exactly c.in_ok-places.ensures.refused_exactly c.in_err-program.ensures.refused_exactly fault n r))
 
 pub returns-clause-loadable : goal.returns-clause-loadable
-returns-clause-loadable c = loadable c.args.modules.now.items c.in_ok-lines.lines c.in_ok-places.places.data_size c.in_ok-places.places.bss_size
-    c.in_ok-table.ensures.joined c.in_ok-places.ensures.data_size c.in_ok-places.ensures.bss_size c.in_ok-places.ensures.fits c.in_ok-lines.ensures.refused_exactly
+returns-clause-loadable c = loadable c.args.modules.now.items c.in_ok-program.program c.in_ok-places.places.data_size c.in_ok-places.places.bss_size
+    c.in_ok-table.ensures.joined c.in_ok-places.ensures.data_size c.in_ok-places.ensures.bss_size c.in_ok-places.ensures.fits c.in_ok-program.ensures.refused_exactly
 
 pub returns-clause-refused_exactly : goal.returns-clause-refused_exactly
-returns-clause-refused_exactly c = none-refused c.args.modules.now.items c.in_ok-table.table c.in_ok-places.places c.in_ok-lines.lines _
-    c.in_ok-table.ensures.refused_exactly c.in_ok-places.ensures.refused_exactly c.in_ok-lines.ensures.refused_exactly
+returns-clause-refused_exactly c = none-refused c.args.modules.now.items c.in_ok-table.table c.in_ok-places.places c.in_ok-program.program _
+    c.in_ok-table.ensures.refused_exactly c.in_ok-places.ensures.refused_exactly c.in_ok-program.ensures.refused_exactly

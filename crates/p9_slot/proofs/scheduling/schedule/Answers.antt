@@ -2,6 +2,7 @@ use Rattle.std.proofs.Common.{◌∙◌, ap}
 use Rattle.p9_slot.specs.Placing.{nothing, numbers}
 use Rattle.p9_slot.proofs.Clauses.{Answer, answer, targets_below, targets_of_blocks, each_once, calls_return, targets_divide, runs_as_straight}
 use Rattle.p9_slot.proofs.Added.{adds_only_noops, noops_justified}
+use Rattle.p9_slot.proofs.Spacing.{is_spaced}
 use Rattle.p9_slot.proofs.scheduling.schedule.Goals as goal
 use Rattle.p9_slot.proofs.scheduling.schedule.Goals.{After-drop-blocks-2}
 
@@ -39,3 +40,6 @@ returns-clause-divided c = targets_divide c.args.lines.now c.in_ok-list.list.ite
 
 pub returns-clause-runs : goal.returns-clause-runs
 returns-clause-runs c = runs_as_straight c.args.lines.now c.in_ok-list.list.items c.in_ok-moved.moved.items (answered c)
+
+pub returns-clause-spaced : goal.returns-clause-spaced
+returns-clause-spaced c = is_spaced c.args.lines.now c.in_ok-list.list.items c.in_ok-moved.moved.items (answered c)

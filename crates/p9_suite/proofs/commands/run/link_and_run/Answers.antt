@@ -1,7 +1,8 @@
 use Rattle.std.proofs.lemmas.Result.{err_from_is_err_and}
 use Rattle.p9_suite.proofs.StageLemmas.{here_refused, here_went_on}
 use Rattle.p9_suite.specs.Scene.{objects}
-use Rattle.p9_suite.specs.commands.Run.{Links, WritesAndRuns}
+use Rattle.p9_suite.specs.Simulation.{WritesAndRuns}
+use Rattle.p9_suite.specs.commands.Run.{Links}
 use Rattle.p9_suite.proofs.commands.run.link_and_run.Goals as goal
 
 pub returns-in_err-bytes : goal.returns-in_err-bytes

@@ -1,24 +1,26 @@
 use Rattle.std.proofs.lemmas.Result.{err_from_is_err_and}
-use Rattle.p9_suite.proofs.Forms.{rest_read, all_read, stop_read, unkept, split_first, none_left}
+use Rattle.p9_suite.proofs.EachFile.{rest_read, all_read, stop_read, unkept, split_first, none_left}
+use Rattle.p9_suite.proofs.Forms.{lost}
+use Rattle.p9_suite.specs.commands.Run.{ReadsForm}
 use Rattle.p9_suite.proofs.commands.run.read_forms.Goals as goal
 
 pub returns-in_err-file : goal.returns-in_err-file
 returns-in_err-file g c =
     let p = err_from_is_err_and c.from_residual.result c.from_residual.ensures.1 in
-    rw (p.1, p.2) (stop_read g.F.Files.did c.args.files.now c.loop-rest.files c.read_form.new.files c.args.names.now c.loop-rest.rest.now _ c.name-item.result c.loop-rest.list.items c.in_err-file.field-0.0
+    rw (p.1, p.2) (stop_read g.F.Files.did ReadsForm c.args.files.now c.loop-rest.files c.read_form.new.files c.args.names.now c.loop-rest.rest.now _ c.name-item.result c.loop-rest.list.items c.in_err-file.field-0.0
     c.loop-rest.invariant (split_first c.loop-rest.rest.now c.name-item.result c.in-len1-up.len_at_least c.name-item.is) c.in_err-file.ensures)
 
 pub returns-in_default-push : goal.returns-in_default-push
 returns-in_default-push g c =
-    unkept g.F.Files.did c.args.files.now c.loop-rest.files c.read_form.new.files c.args.names.now c.loop-rest.rest.now _ c.name-item.result c.loop-rest.list.items c.in_ok-file.file
+    unkept g.F.Files.did ReadsForm c.args.files.now c.loop-rest.files c.read_form.new.files c.args.names.now c.loop-rest.rest.now _ c.name-item.result c.loop-rest.list.items c.in_ok-file.file (lost c.name-item.result c.in_ok-file.file)
     c.loop-rest.invariant (split_first c.loop-rest.rest.now c.name-item.result c.in-len1-up.len_at_least c.name-item.is) c.in_ok-file.ensures
 
 pub loop-rest-preserved : goal.loop-rest-preserved
 loop-rest-preserved g c =
-    rest_read g.F.Files.did c.args.files.now c.loop-rest.files c.read_form.new.files c.args.names.now c.loop-rest.rest.now _ c.name-item.result c.loop-rest.list.items c.push.new.self.items c.in_ok-file.file
+    rest_read g.F.Files.did ReadsForm c.args.files.now c.loop-rest.files c.read_form.new.files c.args.names.now c.loop-rest.rest.now _ c.name-item.result c.loop-rest.list.items c.push.new.self.items c.in_ok-file.file
     c.loop-rest.invariant (split_first c.loop-rest.rest.now c.name-item.result c.in-len1-up.len_at_least c.name-item.is) c.in_ok-file.ensures c.in-Ok.ensures.items
 
 pub returns : goal.returns
 returns g c =
-    all_read g.F.Files.did c.args.files.now c.loop-rest.files c.args.names.now c.loop-rest.rest.now c.loop-rest.list.items
+    all_read g.F.Files.did ReadsForm c.args.files.now c.loop-rest.files c.args.names.now c.loop-rest.rest.now c.loop-rest.list.items
     c.loop-rest.invariant (none_left c.loop-rest.rest.now c.in_default.len_below)

@@ -1,0 +1,5 @@
+//! Tests of the executables of assembled modules.
+#![tactic(auto)]
+
+#[cfg(test)]
+mod tests;

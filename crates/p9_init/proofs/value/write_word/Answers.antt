@@ -1,0 +1,11 @@
+use Rattle.std.proofs.Common.{[], ◌∷◌, ◌/◌, ◌%◌, refl, ◌∙◌}
+use Rattle.p9_init.specs.Cells.{with_entry}
+use Rattle.p9_init.proofs.Values.{number_written}
+use Rattle.p9_init.proofs.value.write_word.Goals as goal
+
+pub returns : goal.returns
+returns c =
+    let word = c.args.word in
+    number_written c.args.start 4 word (word / 16777216 % 256 ∷ word / 65536 % 256 ∷ word / 256 % 256 ∷ word / 1 % 256 ∷ []) c.args.cells.now c.write.new.cells (λ union owner symbols. refl) c.requires.within c.requires.parts
+    (c.write.ensures
+    ∙ λ i. with_entry c.args.start (c.byte_cell.ensures i ∷ c.byte_cell-2.ensures i ∷ c.byte_cell-3.ensures i ∷ c.byte_cell-4.ensures i ∷ []) c.args.cells.now)

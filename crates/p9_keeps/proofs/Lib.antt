@@ -1,0 +1,16 @@
+pub mod Living
+pub mod Widths
+pub mod Cores
+pub mod Scenes
+pub mod Places
+pub mod Lagging
+pub mod Matching
+pub mod Shapes
+pub mod Laying
+pub mod Stepping
+pub mod Acting
+pub mod Variables
+pub mod Shifting
+pub mod Turning
+pub mod Keeping
+pub mod Valid

@@ -1,0 +1,4 @@
+pub mod Quiet
+pub mod Starting
+pub mod Showing
+pub mod Mapping

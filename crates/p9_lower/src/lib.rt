@@ -1,0 +1,10 @@
+//! The typed trees of a typed module, as a definition, and laws that they mean what the module means.
+//! Each law is the contract of a function that does nothing.
+#![tactic(auto)]
+
+mod laws;
+
+pub use laws::{
+    contents_mean_same, functions_mean_same, lowered_means, parts_are_same, places_mean,
+    runs_of_lowered, statements_mean, trees_of_lowered, values_mean,
+};

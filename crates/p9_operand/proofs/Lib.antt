@@ -1,0 +1,3 @@
+mod Operands
+pub mod Leasts
+mod TestTags

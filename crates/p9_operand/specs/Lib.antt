@@ -1,0 +1,5 @@
+pub mod Least
+pub mod Values
+pub mod Told
+pub mod Arities
+pub mod Answers

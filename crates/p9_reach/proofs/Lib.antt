@@ -1,0 +1,10 @@
+pub mod Spacing
+pub mod Sizes
+pub mod Small
+pub mod Forms
+pub mod Added
+pub mod Fitting
+pub mod Pieces
+pub mod Branching
+pub mod Close
+pub mod Reaching

@@ -1,0 +1,16 @@
+pub mod Words
+pub mod Least
+pub mod Numbers
+pub mod Own
+pub mod Finding
+pub mod Fine
+pub mod Plain
+pub mod Matching
+pub mod Leading
+pub mod Entering
+pub mod Calling
+pub mod Returning
+pub mod Stepping
+pub mod Refining
+pub mod Starting
+pub mod Placed

@@ -1,0 +1,5 @@
+pub mod Newest
+pub mod Seen
+pub mod Retyping
+pub mod State
+pub mod Sound

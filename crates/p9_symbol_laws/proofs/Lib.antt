@@ -1,0 +1,4 @@
+pub mod Records
+pub mod Functions
+pub mod Entries
+pub mod Rising

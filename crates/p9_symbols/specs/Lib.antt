@@ -1,0 +1,4 @@
+pub mod Placing
+pub mod Tables
+pub mod Entries
+pub mod Held
