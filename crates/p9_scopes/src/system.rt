@@ -11,14 +11,14 @@ use p9_lang::{Bind, CType, Ident};
 use sqlite_items::{Boxed, Items};
 use std::alloc::Global;
 
-#[tactic(auto, using(crate::proofs::Shapes::type_of_pointer))]
+#[tactic(auto, using(p9_types::proofs::Shapes::type_of_pointer))]
 fn pointer_to(alloc: Global, ty: CType) -> Result<CType, NoMemory>
     ensures { IfOk result (λ t. type_of t ≡ Pointer (type_of ty)) }
 {
     Ok(CType::Pointer(Boxed::new(alloc, ty)?))
 }
 
-#[tactic(auto, using(crate::proofs::Shapes::type_of_function, crate::proofs::Shapes::type_of_void, crate::proofs::Shapes::type_of_char))]
+#[tactic(auto, using(p9_types::proofs::Shapes::type_of_function, p9_types::proofs::Shapes::type_of_void, p9_types::proofs::Shapes::type_of_char))]
 fn exits_type(alloc: Global) -> Result<CType, NoMemory>
     ensures { IfOk result (λ t. type_of t ≡ exits_type) }
 {
@@ -27,7 +27,7 @@ fn exits_type(alloc: Global) -> Result<CType, NoMemory>
     Ok(CType::Function(Boxed::new(alloc, CType::Void)?, parameters))
 }
 
-#[tactic(auto, using(crate::proofs::Shapes::type_of_function, crate::proofs::Shapes::type_of_void, crate::proofs::Shapes::type_of_int, crate::proofs::Shapes::type_of_long))]
+#[tactic(auto, using(p9_types::proofs::Shapes::type_of_function, p9_types::proofs::Shapes::type_of_void, p9_types::proofs::Shapes::type_of_int, p9_types::proofs::Shapes::type_of_long))]
 fn transfer_type(alloc: Global) -> Result<CType, NoMemory>
     ensures { IfOk result (λ t. type_of t ≡ transfer_type) }
 {

@@ -66,7 +66,7 @@ fn all_have_sizes(alloc: Global, tags: &Tags, members: &[Member]) -> Result<bool
 }
 
 // Whether a structure or union has a size that is within the limit.
-#[tactic(auto, using(crate::proofs::Tables::fits_there, crate::proofs::Shapes::type_of_tagged))]
+#[tactic(auto, using(crate::proofs::Tables::fits_there, p9_types::proofs::Shapes::type_of_tagged))]
 fn is_within_limit(alloc: Global, tags: &Tags, number: u32) -> Result<bool, NoMemory>
     requires { NoneContainsItself (tags_of tags.now.list) }
     ensures { IfOk result (λ fits. fits ≡ true
