@@ -37,11 +37,12 @@ use Rattle.p9_tree.proofs.Same.{same_bind, same_if}
 use Rattle.p9_lower.specs.Names.{name_tree}
 use Rattle.p9_lower.specs.Operators.{width_of, stored_tree, read_tree, inner_tree, binary_tree, passed_tree, conversion_to, assigned_tree}
 use Rattle.p9_lower.specs.Expressions.{named_tree, place_tree, value_tree, argument_trees}
-use Rattle.p9_lower.specs.Premises.{NameIsKnown, NodesAreSound, RowIsSound}
+use Rattle.p9_lower.specs.Premises.{is_sure, NameIsKnown, NodesAreSound, RowIsSound}
 use Rattle.p9_lower.specs.Keeping.{Stands, Agree, setting_in}
 use Rattle.p9_lower.specs.Laws.{ValuesMean, PlacesMean}
 use Rattle.p9_lower.proofs.Plays.{stands_refl, stands_alike, along, used_free, used_same, result_same}
 use Rattle.p9_lower.proofs.Binary.{binary_same}
+use Rattle.p9_lower.proofs.Sure.{sure_words}
 use Rattle.p9_lower.proofs.Access.{then_same, name_same, read_same, inner_same, test_same, converted_same, cast_same, chosen_same, word_same, plus_same}
 use Rattle.p9_lower.proofs.Assigning.{scalar_same, structure_same}
 use Rattle.p9_lower.proofs.Updating.{updated_same, before_same, behind_same}
@@ -187,6 +188,7 @@ module _ (symbols : List Symbol) (around : Surroundings) (env : Environment) (ag
         binary_same env agree.moved (at around label) around.tags (value around array s) (value around index)
         (value_tree (setting_in symbols around) array) (value_tree (setting_in symbols around) index) s
         (value_same array s c.2.0 n.1.0) (λ t. value_same index t c.2.1.0 n.1.1.0)
+        (is_sure array) (λ w. sure_words around array s w)
         operator.Add (operand_type array) (operand_type index) refl n.0
     place_same (node (kind.Dot arrow name) label (more e none)) s c n =
         inner_same env agree.moved (at around label) (member_offset around.tags arrow (if arrow then operand_type e else type_at e) name)
@@ -239,6 +241,7 @@ module _ (symbols : List Symbol) (around : Surroundings) (env : Environment) (ag
         (binary_same env agree.moved (at around label) around.tags (value around array s) (value around index)
         (value_tree (setting_in symbols around) array) (value_tree (setting_in symbols around) index) s
         (value_same array s c.2.0 n.1.0) (λ t. value_same index t c.2.1.0 n.1.1.0)
+        (is_sure array) (λ w. sure_words around array s w)
         operator.Add (operand_type array) (operand_type index) refl n.0))
     value_same (node (kind.Dot arrow name) label (more e none)) s c n =
         from_same Stands
@@ -269,6 +272,7 @@ module _ (symbols : List Symbol) (around : Surroundings) (env : Environment) (ag
         binary_same env agree.moved (at around label) around.tags (value around left s) (value around right)
         (value_tree (setting_in symbols around) left) (value_tree (setting_in symbols around) right) s
         (value_same left s c.2.0 n.1.0) (λ t. value_same right t c.2.1.0 n.1.1.0)
+        (is_sure left) (λ w. sure_words around left s w)
         op (operand_type left) (operand_type right) refl n.0
     value_same (node kind.Choose label (more which (more first (more second none)))) s c n =
         same_bind Stands Stands (value around which s) (evaluate env (value_tree (setting_in symbols around) which) s) _ _ (value_same which s c.2.0 n.1.0) (λ a a' t g.

@@ -4,6 +4,7 @@ pub mod Moving
 pub mod Operating
 pub mod Trees
 pub mod Quiet
+pub mod Sure
 pub mod Binary
 pub mod Access
 pub mod Assigning

@@ -2,6 +2,7 @@
 use Rattle.std.specs.Prelude.{◌≡◌, ℕ, ◌+◌, ◌==◌, ◌&&◌, ◌||◌, length, Result, Ok, Err, Bool, true, false, not, nat_lt, nat_le, List, [], ◌∷◌, ◌++◌, slice_get, Option, Some, None}
 use Rattle.p9_lang.specs.declared.tree.CBinary.{CBinary}
 use Rattle.p9_lang.specs.declared.tree.CBinary.TheVariants as operator
+use Rattle.p9_lang.specs.declared.tree.CUnary.TheVariants as unary
 use Rattle.p9_lang.specs.declared.tree.Kind.{Kind}
 use Rattle.p9_lang.specs.declared.tree.Kind.TheVariants as kind
 use Rattle.p9_lang.specs.Trees.{node, none, more}
@@ -38,12 +39,35 @@ works_on_words operator.AndAnd = false
 works_on_words operator.OrOr = false
 works_on_words op = true
 
+-- Expressions that are worth a number, if anything: no call can give them no value, or an address.
+abbrev pub is_sure : Typed → Bool
+is_sure (node (kind.Number n unsigned long) label none) = true
+is_sure (node (kind.Character n) label none) = true
+is_sure (node (kind.Name x) label none) = is_integer label.type
+is_sure (node kind.Parens label (more e none)) = is_sure e
+is_sure (node (kind.Unary unary.Deref) label (more e none)) = is_integer label.type
+is_sure (node (kind.Unary unary.Plus) label (more e none)) = true
+is_sure (node (kind.Unary unary.Minus) label (more e none)) = true
+is_sure (node (kind.Unary unary.Complement) label (more e none)) = true
+is_sure (node (kind.Unary unary.Not) label (more e none)) = true
+is_sure (node kind.SizeofValue label (more e none)) = true
+is_sure (node kind.SizeofType label (more type none)) = true
+is_sure (node kind.Cast label (more type (more e none))) = is_integer label.type
+is_sure (node kind.Index label (more array (more index none))) = is_integer label.type
+is_sure (node (kind.Dot arrow name) label (more e none)) = is_integer label.type
+is_sure (node (kind.Binary operator.AndAnd) label (more left (more right none))) = true
+is_sure (node (kind.Binary operator.OrOr) label (more left (more right none))) = true
+is_sure (node (kind.Binary op) label (more left (more right none))) = is_integer (operand_type left) && is_integer (operand_type right)
+is_sure (node kind.Comma label (more left (more right none))) = is_sure right
+is_sure (node k label parts) = false
+
 -- Pointers differ by whole elements of a complete type. Where an integer is added to a pointer that
--- stands behind it, the pointer has no effects, given the tree of the right operand.
-abbrev pub operands_are_sound : Tags → CBinary → (left right : TypeTree) → Tree → Bool
-operands_are_sound tags operator.Sub (Pointer target) (Pointer other) b = is_size (size_of tags target)
-operands_are_sound tags operator.Add left (Pointer target) b = is_pointer left || pure b
-operands_are_sound tags op left right b = true
+-- stands behind it, and the integer isn't sure, the pointer has no effects, given the tree of the right
+-- operand.
+abbrev pub operands_are_sound : Tags → CBinary → (left right : TypeTree) → (sure : Bool) → Tree → Bool
+operands_are_sound tags operator.Sub (Pointer target) (Pointer other) sure b = is_size (size_of tags target)
+operands_are_sound tags operator.Add left (Pointer target) sure b = is_pointer left || (sure || pure b)
+operands_are_sound tags op left right sure b = true
 
 -- `op=` changes an integer by an integer, and a pointer by a number of elements
 abbrev pub is_additive : CBinary → Bool
@@ -81,9 +105,9 @@ abbrev pub NodeIsSound : Setting → Kind → Label → TypedRow → Type 0
 NodeIsSound setting (kind.Name x) label parts = NameIsKnown setting.symbols label.type label.means
 NodeIsSound setting (kind.Text texts) label parts = NameIsKnown setting.symbols label.type label.means
 NodeIsSound setting kind.Index label (more array (more index none)) =
-    operands_are_sound setting.tags operator.Add (operand_type array) (operand_type index) (value_tree setting index) ≡ true
+    operands_are_sound setting.tags operator.Add (operand_type array) (operand_type index) (is_sure array) (value_tree setting index) ≡ true
 NodeIsSound setting (kind.Binary op) label (more left (more right none)) =
-    operands_are_sound setting.tags op (operand_type left) (operand_type right) (value_tree setting right) ≡ true
+    operands_are_sound setting.tags op (operand_type left) (operand_type right) (is_sure left) (value_tree setting right) ≡ true
 NodeIsSound setting (kind.Assign (Some op)) label (more left (more right none)) = update_is_sound op (type_at left) (operand_type right) ≡ true
 NodeIsSound setting k label parts = Unit {0}
 
