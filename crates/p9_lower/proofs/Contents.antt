@@ -1,8 +1,8 @@
 -- The first contents of a module's objects.
-use Rattle.std.proofs.Common.{◌≡◌, ◌<◌, ◌≤◌, ℕ, zero, suc, ◌+◌, ◌-◌, ◌*◌, ◌/◌, ◌%◌, ◌^◌, ◌==◌, ◌&&◌, ◌||◌, nat_lt, nat_le, Bool, true, false, not, if◌then◌else◌, List, [], ◌∷◌, ◌++◌, map, length, Option, Some, None, refl, sym, ap, ◌∙◌, subst, arith}
+use Rattle.std.proofs.Common.{◌≡◌, ◌<◌, ◌≤◌, ℕ, zero, suc, ◌+◌, ◌/◌, ◌%◌, ◌==◌, ◌&&◌, ◌||◌, nat_lt, Bool, true, false, not, if◌then◌else◌, List, [], ◌∷◌, ◌++◌, map, length, Option, Some, None, refl, sym, ap, ◌∙◌, subst, arith}
 use Rattle.std.proofs.lemmas.Bool.Decides.{nat_tests}
 use Rattle.p9_base.specs.Numbers.{sign_extended}
-use Rattle.p9_base.specs.Words.{low8, low16}
+use Rattle.p9_base.specs.Words.{low16}
 use Rattle.p9_lang.specs.Types.{TypeTree, Char, UChar, Short, UShort, Int, UInt, Long, ULong, Tags}
 use Rattle.p9_lang.specs.Layout.{size_of}
 use Rattle.p9_lang.specs.Conversions.{is_integer}
@@ -24,11 +24,11 @@ use Rattle.p9_cmean.specs.Union.{Union, union_of, static_number}
 use Rattle.p9_cmean.specs.FirstContents.{into, named_pointer, base_pointer, address_cells, with_entry}
 use Rattle.p9_cmean.specs.FirstContents as first
 use Rattle.p9_tree.specs.Trees.{Const, Addr}
-use Rattle.p9_tree.specs.Modules.{Entry, Initialiser}
+use Rattle.p9_tree.specs.Modules.{Entry}
 use Rattle.p9_tree.specs.Contents as typed
-use Rattle.p9_tree.specs.Means.{ContentsMean, InitialisersMean, DataSymbol, data_symbols, first_of}
+use Rattle.p9_tree.specs.Means.{ContentsMean, InitialisersMean, data_symbols}
 use Rattle.p9_lower.specs.Names.{has_no_number, is_outer_symbol, is_static_symbol}
-use Rattle.p9_lower.specs.Modules.{setting_of, base_symbol, entry, byte_entries, fixed_address, content_entries, write_entries, broken_entry, first_entries, initialiser_of, initialisers_from, lowered}
+use Rattle.p9_lower.specs.Modules.{setting_of, base_symbol, entry, byte_entries, fixed_address, content_entries, write_entries, broken_entry, first_entries, initialisers_from}
 use Rattle.p9_lower.specs.Premises.{are_bytes, is_empty, is_found, lies_inside, content_is_sound, writes_are_sound, first_is_sound, firsts_are_sound}
 use Rattle.p9_lower.specs.Laws.{ContentsMeanSame}
 use Rattle.p9_lower.proofs.Agreeing.{Found, found, names_are, no_number, a_number}

@@ -20,5 +20,6 @@ pub mod Small
 pub mod Bytes
 pub mod Contents
 pub mod Means
+pub mod Verdicts
 pub mod Expressions
 pub mod Examples

@@ -1,5 +1,5 @@
 -- Expressions that are worth a number.
-use Rattle.std.proofs.Common.{◌≡◌, ℕ, ◌==◌, ◌&&◌, Bool, true, false, not, if◌then◌else◌, List, [], ◌∷◌, Option, Some, None, Result, Ok, Err, refl, sym, ap, ◌∙◌, subst}
+use Rattle.std.proofs.Common.{◌≡◌, ℕ, Bool, true, false, not, if◌then◌else◌, List, Option, Some, None, Result, Ok, Err, refl, subst}
 use Rattle.std.specs.List.{list_any}
 use Rattle.p9_base.specs.Words.{word_negation, word_complement}
 use Rattle.p9_lang.specs.declared.tree.CBinary.{CBinary}
@@ -7,23 +7,22 @@ use Rattle.p9_lang.specs.declared.tree.CBinary.TheVariants as operator
 use Rattle.p9_lang.specs.declared.tree.CUnary.TheVariants as unary
 use Rattle.p9_lang.specs.declared.tree.Kind.TheVariants as kind
 use Rattle.p9_lang.specs.Trees.{node, none, more}
-use Rattle.p9_lang.specs.Types.{TypeTree, Void, Char, UChar, Short, UShort, Int, UInt, Long, ULong, Pointer, Array, Function, Tagged, Tags, Meant, EnumValue}
+use Rattle.p9_lang.specs.Types.{TypeTree, Void, Pointer, Array, Function, Tagged, Tags, Meant, EnumValue}
 use Rattle.p9_lang.specs.Layout.{size_of, alignment_of}
 use Rattle.p9_lang.specs.Conversions.{is_integer}
 use Rattle.p9_lang.specs.Constants.{narrowed, truth, word_operation, works_unsigned, WordFault, type_at}
-use Rattle.p9_lang.specs.Modules.{Label, Typed, TypedRow}
+use Rattle.p9_lang.specs.Modules.{Typed}
 use Rattle.p9_cmean.specs.declared.Cause.{Cause}
 use Rattle.p9_cmean.specs.declared.Cause.TheVariants as cause
 use Rattle.p9_cmean.specs.declared.Place.{Place}
 use Rattle.p9_cmean.specs.Cells.{Value, Word, Address, Missing, Cell, Object, State}
-use Rattle.p9_cmean.specs.Cells as cells
 use Rattle.p9_cmean.specs.Plays.{Play, Done, Wrong, NoMeaning, Exit, Cut, Turn, Ask, Moved, bind}
-use Rattle.p9_cmean.specs.Places.{used, or_wrong, done_at, or_no_meaning}
+use Rattle.p9_cmean.specs.Places.{used, done_at, or_no_meaning}
 use Rattle.p9_cmean.specs.Access.{and_go, integer_in, target_in, accessed, is_unset, is_part, number_of, integer_from, loaded}
 use Rattle.p9_cmean.specs.Contents.{Content, content_of}
 use Rattle.p9_cmean.specs.Contents as contents
-use Rattle.p9_cmean.specs.Operators.{word_or_cause, of_integers, of_integer, if_integer, operation}
-use Rattle.p9_cmean.specs.Expressions.{Surroundings, at, operand_type, address_of_name, value_of_name, read_content, read_at, narrow, cast_to, member_at, test_at, operate, promoted, negated, complemented, address, value}
+use Rattle.p9_cmean.specs.Operators.{word_or_cause, of_integers, of_integer, operation}
+use Rattle.p9_cmean.specs.Expressions.{Surroundings, at, operand_type, address_of_name, value_of_name, read_content, read_at, narrow, cast_to, member_at, test_at, operate, value}
 use Rattle.p9_tree.specs.Same as plays
 use Rattle.p9_lower.specs.Premises.{is_sure}
 use Rattle.p9_lower.specs.Keeping.{Stands}

@@ -6,4 +6,5 @@ pub mod Modules
 pub mod Keeping
 pub mod Premises
 pub mod Laws
+pub mod Verdicts
 pub mod Examples

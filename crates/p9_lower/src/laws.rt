@@ -1,5 +1,6 @@
 // Laws of the definitions in `specs/`. Each function does nothing; its contract is the law.
 ghost use Rattle.p9_lower.specs.Laws.{ContentsMeanSame, FunctionsMeanSame, LoweredMeans, PartsAreSame, PlacesMean, StatementsMean, ValuesMean};
+ghost use Rattle.p9_lower.specs.Verdicts.{DifferencesAreComplete, UpdatesAreSound};
 ghost use Rattle.p9_lower.specs.Examples.{RunsOfLowered, TreesOfLowered};
 
 /// The tree of an expression means what the expression means: the same play, with equal values where the
@@ -46,6 +47,18 @@ pub fn contents_mean_same()
 /// every program with any number of turns, and first contents.
 pub fn lowered_means()
     ensures { LoweredMeans }
+{}
+
+/// An `op=` that typing takes changes an integer by an integer, or a pointer by a number of elements, as
+/// `values_mean` asks.
+pub fn updates_are_sound()
+    ensures { UpdatesAreSound }
+{}
+
+/// Two pointers whose difference typing takes are to a complete type.
+#[tactic(auto, using(crate::proofs::Verdicts::differences_are_complete))]
+pub fn differences_are_complete()
+    ensures { DifferencesAreComplete }
 {}
 
 /// What small programs come to by the typed trees that are made of them: the same as by their sources.

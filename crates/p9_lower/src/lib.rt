@@ -5,6 +5,7 @@
 mod laws;
 
 pub use laws::{
-    contents_mean_same, functions_mean_same, lowered_means, parts_are_same, places_mean,
-    runs_of_lowered, statements_mean, trees_of_lowered, values_mean,
+    contents_mean_same, differences_are_complete, functions_mean_same, lowered_means,
+    parts_are_same, places_mean, runs_of_lowered, statements_mean, trees_of_lowered,
+    updates_are_sound, values_mean,
 };
