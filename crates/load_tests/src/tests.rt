@@ -23,7 +23,9 @@ fn word(bytes: &[u8], place: usize) -> Result<u32, Fail> {
 #[test]
 fn a_main_that_returns(rt: HostRuntime) -> Result<(), Fail> {
     let alloc = rt.alloc();
-    let image = loaded(alloc, "TEXT main(SB), $0\nRET\n")?.ok().ok_or("refused")?;
+    let image = loaded(alloc, "TEXT main(SB), $0\nRET\n")?
+        .ok()
+        .ok_or("refused")?;
     assert_eq!(rt; image.entry, 0x1020);
     let bytes = image.bytes.list.as_slice();
     let header = [0x407, image.text_size, 24, 0];
@@ -33,8 +35,15 @@ fn a_main_that_returns(rt: HostRuntime) -> Result<(), Fail> {
     }
     assert_eq!(rt; word(bytes, 20)?, 0x1020);
     let text = [
-        0x3c1e_0000, 0x37de_9ffe, 0x27bd_fff4, 0xafbf_0000, 0x3c1c_0000, 0x3782_2000, 0xafa2_0008,
-        0x0c00_0418, 0x2401_0001,
+        0x3c1e_0000,
+        0x37de_9ffe,
+        0x27bd_fff4,
+        0xafbf_0000,
+        0x3c1c_0000,
+        0x3782_2000,
+        0xafa2_0008,
+        0x0c00_0418,
+        0x2401_0001,
     ];
     for (k, want) in text.iter().enumerate() {
         let place = 32 + 4 * k;
@@ -50,7 +59,8 @@ fn a_main_that_returns(rt: HostRuntime) -> Result<(), Fail> {
 #[test]
 fn data_have_addresses(rt: HostRuntime) -> Result<(), Fail> {
     let alloc = rt.alloc();
-    let text = "GLOBL t(SB), $4\nDATA t+0(SB)/4, $u+2(SB)\nGLOBL u(SB), $6\nTEXT main(SB), $0\nRET\n";
+    let text =
+        "GLOBL t(SB), $4\nDATA t+0(SB)/4, $u+2(SB)\nGLOBL u(SB), $6\nTEXT main(SB), $0\nRET\n";
     let image = loaded(alloc, text)?.ok().ok_or("refused")?;
     let bytes = image.bytes.list.as_slice();
     assert_eq!(rt; word(bytes, 8)?, 28);
@@ -62,10 +72,15 @@ fn data_have_addresses(rt: HostRuntime) -> Result<(), Fail> {
         assert_eq!(rt; word(bytes, place)?, *want);
     }
     let symbols = bytes.get(start + 28..).ok_or("short")?;
-    let first = [0, 0, 0x10, 0x28, 0xf4, b'_', b'm', b'a', b'i', b'n', 0, 0, 0, 0x10, 0x60, 0xd4];
+    let first = [
+        0, 0, 0x10, 0x28, 0xf4, b'_', b'm', b'a', b'i', b'n', 0, 0, 0, 0x10, 0x60, 0xd4,
+    ];
     assert_eq!(rt; symbols.get(..16), Some(first.as_slice()));
     let last = [0, 0, 0x20, 0x1c, 0xc2, b'u', 0];
-    assert_eq!(rt; symbols.get(symbols.len().saturating_sub(7)..), Some(last.as_slice()));
+    assert_eq!(rt;
+        symbols.get(symbols.len().saturating_sub(7)..),
+        Some(last.as_slice())
+    );
     Ok(())
 }
 
