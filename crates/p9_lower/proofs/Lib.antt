@@ -21,5 +21,6 @@ pub mod Bytes
 pub mod Contents
 pub mod Means
 pub mod Verdicts
+pub mod Tests
 pub mod Expressions
 pub mod Examples

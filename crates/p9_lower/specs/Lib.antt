@@ -7,4 +7,6 @@ pub mod Keeping
 pub mod Premises
 pub mod Laws
 pub mod Verdicts
+pub mod Tests
+pub mod SoundExamples
 pub mod Examples

@@ -1,6 +1,8 @@
 // Laws of the definitions in `specs/`. Each function does nothing; its contract is the law.
 ghost use Rattle.p9_lower.specs.Laws.{ContentsMeanSame, FunctionsMeanSame, LoweredMeans, PartsAreSame, PlacesMean, StatementsMean, ValuesMean};
 ghost use Rattle.p9_lower.specs.Verdicts.{DifferencesAreComplete, UpdatesAreSound};
+ghost use Rattle.p9_lower.specs.Tests.{TestedSourcesAreSound};
+ghost use Rattle.p9_lower.specs.SoundExamples.{ExamplesAreSound};
 ghost use Rattle.p9_lower.specs.Examples.{RunsOfLowered, TreesOfLowered};
 
 /// The tree of an expression means what the expression means: the same play, with equal values where the
@@ -59,6 +61,16 @@ pub fn updates_are_sound()
 #[tactic(auto, using(crate::proofs::Verdicts::differences_are_complete))]
 pub fn differences_are_complete()
     ensures { DifferencesAreComplete }
+{}
+
+/// A source that passes the test of `specs/Tests` is as `lowered_means` asks.
+pub fn tested_sources_are_sound()
+    ensures { TestedSourcesAreSound }
+{}
+
+/// Small programs pass that test.
+pub fn examples_are_sound()
+    ensures { ExamplesAreSound }
 {}
 
 /// What small programs come to by the typed trees that are made of them: the same as by their sources.
