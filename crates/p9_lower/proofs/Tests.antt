@@ -1,7 +1,6 @@
 -- The test of sources is sound, and small programs pass it.
-use Rattle.std.proofs.Common.{◌≡◌, ℕ, ◌==◌, ◌&&◌, Bool, true, false, not, List, [], ◌∷◌, ◌++◌, slice_get, Option, Some, None, refl, sym, ap, ◌∙◌, subst}
+use Rattle.std.proofs.Common.{◌≡◌, ℕ, ◌==◌, ◌&&◌, Bool, true, false, not, List, [], ◌∷◌, ◌++◌, slice_get, Option, Some, None, refl, ap, ◌∙◌, subst}
 use Rattle.std.proofs.lemmas.Bool.{eqb-true, not-true}
-use Rattle.p9_lang.specs.declared.tree.CBinary.TheVariants as operator
 use Rattle.p9_lang.specs.declared.tree.Kind.{Kind}
 use Rattle.p9_lang.specs.declared.tree.Kind.TheVariants as kind
 use Rattle.p9_lang.specs.Types.{TypeTree, Void, Char, UChar, Short, UShort, Int, UInt, Long, ULong, Pointer, Array, Function, Tagged, TypeRow, Meant, Nothing, Outer, Static, Auto, EnumValue, TypeName}
@@ -20,8 +19,8 @@ use Rattle.p9_lower.specs.Names.{Setting, outer_symbol, static_symbol}
 use Rattle.p9_lower.specs.Operators.{conversion_to}
 use Rattle.p9_lower.specs.Modules.{setting_of}
 use Rattle.p9_lower.specs.Keeping.{is_function_at}
-use Rattle.p9_lower.specs.Premises.{is_inner, NameIsKnown, NodeIsSound, NodesAreSound, RowIsSound, ExpressionIsSound, AutomaticsAreKnown, InitialIsSound, InitialisersAreSound, StatementIsSound, StatementsAreSound, LoopIsSound, ArgumentsWait, NodeWaits, NodesWait, RowWaits, function_setting, FunctionIsSound, ItemIsSound, ItemsAreSound, firsts_are_sound, SourceIsSound}
-use Rattle.p9_lower.specs.Tests.{answers, name_is_known, node_is_sound, nodes_are_sound, row_is_sound, expression_is_sound, has_type, automatics_are_known, initial_is_sound, initialisers_are_sound, statement_is_sound, statements_are_sound, loop_is_sound, arguments_wait, node_waits, nodes_wait, row_waits, item_is_sound, items_are_sound, source_is_sound, TestedSourcesAreSound}
+use Rattle.p9_lower.specs.Premises.{is_inner, NameIsKnown, NodeIsSound, NodesAreSound, RowIsSound, ExpressionIsSound, AutomaticsAreKnown, InitialIsSound, InitialisersAreSound, StatementIsSound, StatementsAreSound, LoopIsSound, ArgumentsWait, NodeWaits, NodesWait, RowWaits, function_setting, ItemIsSound, ItemsAreSound, firsts_are_sound}
+use Rattle.p9_lower.specs.Tests.{answers, name_is_known, node_is_sound, nodes_are_sound, row_is_sound, expression_is_sound, has_type, automatics_are_known, initial_is_sound, initialisers_are_sound, statement_is_sound, statements_are_sound, loop_is_sound, arguments_wait, node_waits, nodes_wait, row_waits, item_is_sound, items_are_sound, TestedSourcesAreSound}
 use Rattle.p9_lower.specs.SoundExamples.{are_sound, ExamplesAreSound}
 use Rattle.p9_lower.proofs.Quiet.{left_true, right_true}
 
