@@ -28,7 +28,7 @@ use Rattle.p9_tree.proofs.Same.{same_bind}
 use Rattle.p9_lower.specs.Operators.{word_operator, moved_tree, scaled_tree, forward_tree, divided_tree, pointers_tree, pointer_integer_tree, integer_pointer_tree, binary_tree}
 use Rattle.p9_lower.specs.Premises.{is_size, works_on_words, operands_are_sound}
 use Rattle.p9_lower.specs.Keeping.{Stands}
-use Rattle.p9_lower.proofs.Plays.{stands_refl, along, used_free, given_same, operands_same}
+use Rattle.p9_lower.proofs.Plays.{along, used_free, given_same, operands_same}
 use Rattle.p9_lower.proofs.Moving.{moved_value, Moves, elements_move, word_added, added_to_word, word_subtracted, one_element_moved}
 use Rattle.p9_lower.proofs.Operating.{some_ok, of_integer_type, compared_is, equality_is, inequality_is, Between, pointers_differ, whole_divided, whole_of_one, integers_are}
 use Rattle.p9_lower.proofs.Trees.{operated, SymbolsMove, moved_is, scaled_is, elements_in, forward_is, divided_in, divided_is, second_scaled}

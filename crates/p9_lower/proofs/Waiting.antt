@@ -1,5 +1,5 @@
 -- The values of expressions that wait: fewer than their nodes.
-use Rattle.std.proofs.Common.{◌≡◌, ◌≤◌, ℕ, suc, ◌+◌, ◌==◌, Bool, true, false, if◌then◌else◌, Option, Some, None, arith, lit≤}
+use Rattle.std.proofs.Common.{◌≤◌, ℕ, suc, ◌+◌, ◌==◌, Bool, true, false, if◌then◌else◌, Option, Some, None, arith, lit≤}
 use Rattle.p9_lang.specs.declared.tree.CBinary.{CBinary}
 use Rattle.p9_lang.specs.declared.tree.CBinary.TheVariants as operator
 use Rattle.p9_lang.specs.declared.tree.CUnary.TheVariants as unary
