@@ -88,11 +88,12 @@ level_cut tags L = inner_is_cut tags L ∙ map_flat cut_part (inner_parts tags) 
 
 pub unmet_cut : (met : ℕ → Bool) (L : List Part) → unmet met (map cut_part L) ≡ map cut_part (unmet met L)
 unmet_cut met [] = refl
-unmet_cut met (p ∷ L) = by (met p.tag)
+unmet_cut met (p ∷ L) = by (met p.tag) (unmet_cut met L)
   where
-    by : (b : Bool) → (if not b then cut_part p ∷ unmet met (map cut_part L) else unmet met (map cut_part L)) ≡ map cut_part (if not b then p ∷ unmet met L else unmet met L)
-    by true = unmet_cut met L
-    by false = ap (λ l. cut_part p ∷ l) (unmet_cut met L)
+    by : (b : Bool) → unmet met (map cut_part L) ≡ map cut_part (unmet met L)
+        → (if not b then cut_part p ∷ unmet met (map cut_part L) else unmet met (map cut_part L)) ≡ map cut_part (if not b then p ∷ unmet met L else unmet met L)
+    by true e = e
+    by false e = ap (λ l. cut_part p ∷ l) e
 
 pub cut_again : (L : List Part) → map cut_part (map cut_part L) ≡ map cut_part L
 cut_again [] = refl

@@ -79,4 +79,3 @@ pub placed_last : (tags : Tags) (u : Bool) (so_far : Extent) (n : ℕ) (ms : Lis
     → all_placed ps ++ map cut_placed (placed_from tags u so_far n ms) ≡ target → all_placed ps ≡ target
 placed_last tags u so_far n ms ps target e h =
     sym (append-nil (all_placed ps)) ∙ ap (λ l. all_placed ps ++ map cut_placed (placed_from tags u so_far n l)) (sym e) ∙ h
-

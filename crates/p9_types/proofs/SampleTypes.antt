@@ -51,4 +51,3 @@ nested_ends (suc (suc (suc i))) lt = absurd (omega arith)
 
 pub ends_as_nested : (ts : List Tag) → tags_of ts ≡ nested → NoneContainsItself (tags_of ts)
 ends_as_nested ts e = subst NoneContainsItself (sym e) nested_ends
-

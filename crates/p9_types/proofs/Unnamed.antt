@@ -114,4 +114,3 @@ level_then tags met s ss L N M a c =
 
 pub adds_over : (P M N : List Part) → Adds [] P M → Adds [] M N → Adds [] P N
 adds_over P M N a b = record { same = λ s. b.same s ∙ a.same s }
-

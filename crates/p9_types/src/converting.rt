@@ -110,7 +110,7 @@ pub fn convert(
     tags: &Tags,
     zero: bool,
 ) -> Result<Conv, NoMemory>
-    requires ends { NoneContainsItself (tags_of tags.now.list) }
+    requires { NoneContainsItself (tags_of tags.now.list) }
     ensures { IfOk result (λ c. c ≡ told_conversion
         (conversion (tags_of tags.now.list) (type_of from.now) (type_of to.now) zero)) }
 {

@@ -135,7 +135,7 @@ fn find_by_levels(
     tag: u32,
     name: &Ident,
 ) -> Result<Sought<MemberPlace>, NoMemory>
-    requires ends { NoneContainsItself (tags_of tags.now) }
+    requires { NoneContainsItself (tags_of tags.now) }
     ensures { IfOk result (λ found. told_sought found ≡ sought (length (tags_of tags.now)) (tags_of tags.now)
         (named_places (tags_of tags.now) name.now) (whole tag ∷ [])) }
 {
@@ -166,7 +166,7 @@ fn find_by_levels(
 /// The member of a structure or union with this name: its own, or else that of its unnamed
 /// substructures at the least level that has one.
 pub fn find_member(alloc: Global, tags: &Tags, tag: u32, name: &Ident) -> Result<Found, NoMemory>
-    requires ends { NoneContainsItself (tags_of tags.now.list) }
+    requires { NoneContainsItself (tags_of tags.now.list) }
     ensures found { IfOk result (λ found.
         found ≡ without_type (find_member (tags_of tags.now.list) tag name.now)) }
     ensures member { IfOk result (TellsMember (tags_of tags.now.list) tag name.now) }

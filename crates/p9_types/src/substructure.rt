@@ -42,7 +42,12 @@ fn standing_at(level: &[Standing], tag: u32) -> Sought<Option<u32>>
 }
 
 // The substructure, level by level.
-fn find_below(alloc: Global, tags: &[Tag], outer: u32, inner: u32) -> Result<Sought<Option<u32>>, NoMemory>
+fn find_below(
+    alloc: Global,
+    tags: &[Tag],
+    outer: u32,
+    inner: u32,
+) -> Result<Sought<Option<u32>>, NoMemory>
     requires ends { NoneContainsItself (tags_of tags.now) }
     requires apart { outer ≢ inner }
     ensures { IfOk result (λ found. told_sought found

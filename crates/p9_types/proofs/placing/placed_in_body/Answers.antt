@@ -23,7 +23,7 @@ members-preserved c =
           (map cut_placed (placed_from (tags_of c.args.tags.now) c.args.is_union nothing_yet 0 (members_of c.args.members.now)))
           (alike_or_empty c.in_ok-extent_within.field-0 (layout (tags_of c.args.tags.now) (type_of c.member-item.result.ty)) c.unwrap_or-extent.result c.nothing.result
           c.in_ok-extent_within.ensures.extent c.nothing.ensures c.unwrap_or-extent.ensures)
-          c.with_member-so_far.ensures c.in_ok-push.ensures.items refl refl (c.capped_number.ensures.value ∙ ap capped c.offset_of.ensures.value) refl c.in_ok-number.ensures
+          c.with_member-so_far.ensures c.in_ok-push.ensures.items refl refl (c.capped_number.ensures.value ∙ ap capped (c.from.ensures ∙ c.offset_of.ensures.value)) refl c.in_ok-number.ensures
           (subst (λ ms. all_placed c.members.placings.items ++ map cut_placed (placed_from (tags_of c.args.tags.now) c.args.is_union (told c.members.so_far) c.members.number (members_of ms))
           ≡ map cut_placed (placed_from (tags_of c.args.tags.now) c.args.is_union nothing_yet 0 (members_of c.args.members.now))) whole c.members.invariant.placed);
     }
