@@ -1,5 +1,5 @@
 -- Searches that can't tell offsets apart which count as alike.
-use Rattle.std.proofs.Common.{◌≡◌, ℕ, zero, suc, ◌||◌, Bool, true, List, [], ◌∷◌, map, refl, sym, ap, subst, ◌∙◌}
+use Rattle.std.proofs.Common.{◌≡◌, ℕ, zero, suc, ◌||◌, Bool, List, [], ◌∷◌, map, refl, sym, ap, subst, ◌∙◌}
 use Rattle.std.specs.List.{flat_map}
 use Rattle.p9_lang.specs.Types.{Tags}
 use Rattle.p9_lang.specs.Members.{Part, or_deeper, inner_parts, sought}

@@ -1,8 +1,8 @@
 -- What the tests' structures are.
-use Rattle.std.proofs.Common.{◌≡◌, ℕ, zero, suc, Bool, true, false, slice_get, List, [], ◌∷◌, ◌++◌, Some, codes, sym, ap, ◌∙◌, subst, arith}
+use Rattle.std.proofs.Common.{◌≡◌, ℕ, zero, suc, Bool, false, List, [], ◌∷◌, ◌++◌, Some, codes, sym, ap, ◌∙◌, subst, arith}
 use Rattle.p9_lang.specs.declared.types.Member.{Member}
 use Rattle.p9_lang.specs.declared.types.Tag.{Tag}
-use Rattle.p9_lang.specs.Types.{Char, Short, Int, Tags, MemberTree, member_of, members_of, tag_of, tags_of}
+use Rattle.p9_lang.specs.Types.{Char, Short, Int, MemberTree, member_of, members_of, tag_of, tags_of}
 use Rattle.p9_lang.specs.LayoutExamples.{of}
 use Rattle.p9_lang.specs.TagRules.{NoneContainsItself}
 use Rattle.p9_types.specs.Examples.{sample_tag, sample, innermost_tag, enclosing_tag, nested}
