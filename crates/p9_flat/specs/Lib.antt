@@ -1,0 +1,4 @@
+pub mod Resolved
+pub mod Step
+pub mod Code
+pub mod Flat
