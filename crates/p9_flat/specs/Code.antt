@@ -44,12 +44,12 @@ abbrev pub behind : (pc : ℕ) → List Op → (ℕ → List Op) → List Op
 behind pc first next = first ++ next (pc + length first)
 
 -- what isn't there in valid modules
-abbrev pub lacks : (node : ℕ) → List Op
-lacks node = op.NoMeaning node ∷ []
+abbrev pub lacks : (here : ℕ) → List Op
+lacks here = op.NoMeaning here ∷ []
 
 -- so behind the use of the last value
-abbrev pub lacks_of : (node : ℕ) → List Op
-lacks_of node = op.Use ∷ op.NoMeaning node ∷ []
+abbrev pub lacks_of : (here : ℕ) → List Op
+lacks_of here = op.Use ∷ op.NoMeaning here ∷ []
 
 -- NAMES
 
@@ -57,117 +57,117 @@ abbrev pub slot_of : List Slot → (automatic : ℕ) → Option ℕ
 slot_of [] automatic = None
 slot_of (c ∷ cs) automatic = if c.automatic == automatic then Some c.number else slot_of cs automatic
 
-abbrev pub slot_code : Option ℕ → (node : ℕ) → List Op
-slot_code None node = lacks node
-slot_code (Some number) node = op.Automatic number ∷ []
+abbrev pub slot_code : Option ℕ → (here : ℕ) → List Op
+slot_code None here = lacks here
+slot_code (Some number) here = op.Automatic number ∷ []
 
-abbrev pub pointer_code : Numbers → Option Pointer → (node : ℕ) → List Op
-pointer_code numbers None node = lacks node
-pointer_code numbers (Some (Into object offset)) node = op.Object object offset ∷ []
-pointer_code numbers (Some (ToFunction function)) node = op.Function (numbers.function function) ∷ []
+abbrev pub pointer_code : Numbers → Option Pointer → (here : ℕ) → List Op
+pointer_code numbers None here = lacks here
+pointer_code numbers (Some (Into object offset)) here = op.Object object offset ∷ []
+pointer_code numbers (Some (ToFunction function)) here = op.Function (numbers.function function) ∷ []
 
-abbrev pub meant_code : Setting → TypeTree → Meant → (node : ℕ) → List Op
-meant_code setting type types.Nothing node = lacks node
-meant_code setting type (Outer name) node = pointer_code setting.numbers (outer_pointer setting.around type name) node
-meant_code setting type (Static number) node = pointer_code setting.numbers (setting.around.static number) node
-meant_code setting type (Auto number) node = slot_code (slot_of setting.scope number) node
-meant_code setting type (EnumValue value) node = lacks node
-meant_code setting type (TypeName other) node = lacks node
+abbrev pub meant_code : Setting → TypeTree → Meant → (here : ℕ) → List Op
+meant_code setting type types.Nothing here = lacks here
+meant_code setting type (Outer name) here = pointer_code setting.numbers (outer_pointer setting.around type name) here
+meant_code setting type (Static number) here = pointer_code setting.numbers (setting.around.static number) here
+meant_code setting type (Auto number) here = slot_code (slot_of setting.scope number) here
+meant_code setting type (EnumValue value) here = lacks here
+meant_code setting type (TypeName other) here = lacks here
 
 abbrev pub name_code : Setting → Label → List Op
 name_code setting label = meant_code setting label.type label.means label.number
 
 -- READING, WRITING AND CONVERSION
 
-abbrev pub read_code : TypeTree → (node : ℕ) → List Op
-read_code type node = by (content_of type)
+abbrev pub read_code : TypeTree → (here : ℕ) → List Op
+read_code type here = by (content_of type)
   where
     by : Content → List Op
-    by Integer = op.Load (scalar_of type) node ∷ []
-    by Reference = op.Load (scalar_of type) node ∷ []
+    by Integer = op.Load (scalar_of type) here ∷ []
+    by Reference = op.Load (scalar_of type) here ∷ []
     by Aggregate = []
-    by Nothing = lacks node
+    by Nothing = lacks here
 
-abbrev pub store_code : TypeTree → (node : ℕ) → List Op
-store_code type node = by (content_of type)
+abbrev pub store_code : TypeTree → (here : ℕ) → List Op
+store_code type here = by (content_of type)
   where
     by : Content → List Op
-    by Integer = op.Store (scalar_of type) node ∷ []
-    by Reference = op.Store (scalar_of type) node ∷ []
-    by Aggregate = lacks node
-    by Nothing = lacks node
+    by Integer = op.Store (scalar_of type) here ∷ []
+    by Reference = op.Store (scalar_of type) here ∷ []
+    by Aggregate = lacks here
+    by Nothing = lacks here
 
-abbrev pub convert_code : Conversion → (to : TypeTree) → (node : ℕ) → List Op
-convert_code Same to node = if is_integer to then op.Narrow (scalar_of to) node ∷ [] else op.Use ∷ []
-convert_code conversions.Integer to node = op.Narrow (scalar_of to) node ∷ []
-convert_code Null to node = op.Null ∷ []
-convert_code (Inner offset) to node = op.Inner offset node ∷ []
-convert_code conversions.Ambiguous to node = lacks_of node
-convert_code No to node = lacks_of node
+abbrev pub convert_code : Conversion → (to : TypeTree) → (here : ℕ) → List Op
+convert_code Same to here = if is_integer to then op.Narrow (scalar_of to) here ∷ [] else op.Use ∷ []
+convert_code conversions.Integer to here = op.Narrow (scalar_of to) here ∷ []
+convert_code Null to here = op.Null ∷ []
+convert_code (Inner offset) to here = op.Inner offset here ∷ []
+convert_code conversions.Ambiguous to here = lacks_of here
+convert_code No to here = lacks_of here
 
-abbrev pub assign_scalar_code : Conversion → TypeTree → (node : ℕ) → List Op
-assign_scalar_code converts type node = convert_code converts type node ++ store_code type node
+abbrev pub assign_scalar_code : Conversion → TypeTree → (here : ℕ) → List Op
+assign_scalar_code converts type here = convert_code converts type here ++ store_code type here
 
 abbrev pub lvalue_node : Typed → ℕ
 lvalue_node (node kind.Parens label (more e none)) = lvalue_node e
 lvalue_node (node kind.Comma label (more left (more right none))) = lvalue_node right
 lvalue_node (node k label parts) = label.number
 
-abbrev pub assign_code : Surroundings → (node : ℕ) → Typed → TypeTree → List Op
-assign_code around node e type =
+abbrev pub assign_code : Surroundings → (here : ℕ) → Typed → TypeTree → List Op
+assign_code around here e type =
     if is_structure type
-    then op.Copy (size_of around.tags type) (alignment_of around.tags type) (lvalue_node e) node ∷ []
-    else assign_scalar_code (conversion_of around e type) type node
+    then op.Copy (size_of around.tags type) (alignment_of around.tags type) (lvalue_node e) here ∷ []
+    else assign_scalar_code (conversion_of around e type) type here
 
-abbrev pub cast_code : Content → TypeTree → (node : ℕ) → List Op
-cast_code Integer type node = op.Narrow (scalar_of type) node ∷ []
-cast_code Reference type node = op.Use ∷ []
-cast_code Aggregate type node = lacks node
-cast_code Nothing type node = op.Void node ∷ []
+abbrev pub cast_code : Content → TypeTree → (here : ℕ) → List Op
+cast_code Integer type here = op.Narrow (scalar_of type) here ∷ []
+cast_code Reference type here = op.Use ∷ []
+cast_code Aggregate type here = lacks here
+cast_code Nothing type here = op.Void here ∷ []
 
 -- OPERATORS
 
-abbrev pub operation_code : Option Operation → (node : ℕ) → List Op
-operation_code None node = op.Swap ∷ op.Use ∷ op.Swap ∷ lacks_of node
-operation_code (Some done) node = op.Operate done node ∷ []
+abbrev pub operation_code : Option Operation → (here : ℕ) → List Op
+operation_code None here = op.Swap ∷ op.Use ∷ op.Swap ∷ lacks_of here
+operation_code (Some done) here = op.Operate done here ∷ []
 
-abbrev pub operate_code : Surroundings → CBinary → (left right : TypeTree) → (node : ℕ) → List Op
-operate_code around op left right node = operation_code (operation_of op around.tags left right) node
+abbrev pub operate_code : Surroundings → CBinary → (left right : TypeTree) → (here : ℕ) → List Op
+operate_code around op left right here = operation_code (operation_of op around.tags left right) here
 
-abbrev pub inner_code : Option ℕ → (node : ℕ) → List Op
-inner_code None node = lacks_of node
-inner_code (Some offset) node = op.Inner offset node ∷ []
+abbrev pub inner_code : Option ℕ → (here : ℕ) → List Op
+inner_code None here = lacks_of here
+inner_code (Some offset) here = op.Inner offset here ∷ []
 
-abbrev pub member_code : Surroundings → (arrow : Bool) → (e : Typed) → (name : List ℕ) → (node : ℕ) → List Op
-member_code around arrow e name node =
-    inner_code (member_offset around.tags arrow (if arrow then operand_type e else type_at e) name) node
+abbrev pub member_code : Surroundings → (arrow : Bool) → (e : Typed) → (name : List ℕ) → (here : ℕ) → List Op
+member_code around arrow e name here =
+    inner_code (member_offset around.tags arrow (if arrow then operand_type e else type_at e) name) here
 
 -- above the address is the right operand; below it is put what is read
-abbrev pub update_code : Surroundings → (read node : ℕ) → CBinary → (type right : TypeTree) → List Op
-update_code around read node op type right =
-    read_code type read ++ (op.Swap ∷ (operate_code around op type right node
-    ++ assign_scalar_code (result_conversion around type right) type node))
+abbrev pub update_code : Surroundings → (read here : ℕ) → CBinary → (type right : TypeTree) → List Op
+update_code around read here op type right =
+    read_code type read ++ (op.Swap ∷ (operate_code around op type right here
+    ++ assign_scalar_code (result_conversion around type right) type here))
 
 -- TESTS
 
-abbrev pub truth_code : Option Bool → (node : ℕ) → List Op
-truth_code None node = lacks_of node
-truth_code (Some of_pointer) node = op.Truth of_pointer node ∷ []
+abbrev pub truth_code : Option Bool → (here : ℕ) → List Op
+truth_code None here = lacks_of here
+truth_code (Some of_pointer) here = op.Truth of_pointer here ∷ []
 
-abbrev pub not_code : Option Bool → (node : ℕ) → List Op
-not_code None node = lacks_of node
-not_code (Some of_pointer) node = op.Not of_pointer node ∷ []
+abbrev pub not_code : Option Bool → (here : ℕ) → List Op
+not_code None here = lacks_of here
+not_code (Some of_pointer) here = op.Not of_pointer here ∷ []
 
 -- one of two pieces by a test of the last value
-abbrev pub pieces : (of_pointer : Bool) → (node pc : ℕ) → List Op → (ℕ → List Op) → List Op
-pieces of_pointer node pc first next =
-    op.Branch of_pointer node (suc (suc (pc + length first)))
+abbrev pub pieces : (of_pointer : Bool) → (here pc : ℕ) → List Op → (ℕ → List Op) → List Op
+pieces of_pointer here pc first next =
+    op.Branch of_pointer here (suc (suc (pc + length first)))
     ∷ (first ++ (op.Jump (suc (suc (pc + length first)) + length (next (suc (suc (pc + length first)))))
     ∷ next (suc (suc (pc + length first)))))
 
-abbrev pub choice_code : Option Bool → (node pc : ℕ) → (ℕ → List Op) → (ℕ → List Op) → List Op
-choice_code None node pc first second = lacks_of node
-choice_code (Some of_pointer) node pc first second = pieces of_pointer node pc (first (suc pc)) second
+abbrev pub choice_code : Option Bool → (here pc : ℕ) → (ℕ → List Op) → (ℕ → List Op) → List Op
+choice_code None here pc first second = lacks_of here
+choice_code (Some of_pointer) here pc first second = pieces of_pointer here pc (first (suc pc)) second
 
 abbrev pub chosen_code : TypeTree → List Op
 chosen_code Void = []
@@ -175,13 +175,13 @@ chosen_code type = op.Use ∷ []
 
 -- CALLS
 
-abbrev pub answer_code : (gives_integer : Bool) → (node : ℕ) → List Op
-answer_code false node = []
-answer_code true node = op.Answer node ∷ []
+abbrev pub answer_code : (gives_integer : Bool) → (here : ℕ) → List Op
+answer_code false here = []
+answer_code true here = op.Answer here ∷ []
 
-abbrev pub call_code : Setting → TypeTree → (count node : ℕ) → List Op
-call_code setting type count node =
-    op.Call count (setting.numbers.call_type type) node ∷ answer_code (gives_integer type) node
+abbrev pub call_code : Setting → TypeTree → (count here : ℕ) → List Op
+call_code setting type count here =
+    op.Call count (setting.numbers.call_type type) here ∷ answer_code (gives_integer type) here
 
 -- EXPRESSIONS
 
@@ -271,10 +271,10 @@ abbrev mutual
   value_code setting pc (node k label parts) = lacks label.number
 
   -- pushes the arguments of a call
-  pub values_code : Setting → (node pc : ℕ) → TypeRow → TypedRow → List Op
-  values_code setting node pc types.none none = []
-  values_code setting node pc types.none (more first others) = lacks node
-  values_code setting node pc (types.more parameter parameters) none = lacks node
-  values_code setting node pc (types.more parameter parameters) (more first others) =
-      behind pc (value_code setting pc first ++ convert_code (conversion_of setting.around first parameter) parameter node) (λ m.
-      values_code setting node m parameters others)
+  pub values_code : Setting → (here pc : ℕ) → TypeRow → TypedRow → List Op
+  values_code setting here pc types.none none = []
+  values_code setting here pc types.none (more first others) = lacks here
+  values_code setting here pc (types.more parameter parameters) none = lacks here
+  values_code setting here pc (types.more parameter parameters) (more first others) =
+      behind pc (value_code setting pc first ++ convert_code (conversion_of setting.around first parameter) parameter here) (λ m.
+      values_code setting here m parameters others)

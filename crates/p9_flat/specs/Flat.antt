@@ -74,20 +74,20 @@ block_code setting ends pc (d ∷ ds) body =
 
 -- TESTS, LOOPS AND SWITCHES
 
-abbrev pub branch_code : Option Bool → (node otherwise : ℕ) → List Op
-branch_code None node otherwise = lacks_of node
-branch_code (Some of_pointer) node otherwise = op.Branch of_pointer node otherwise ∷ []
+abbrev pub branch_code : Option Bool → (here otherwise : ℕ) → List Op
+branch_code None here otherwise = lacks_of here
+branch_code (Some of_pointer) here otherwise = op.Branch of_pointer here otherwise ∷ []
 
 -- a statement behind a test
-abbrev pub guarded : (of_pointer : Bool) → (node pc : ℕ) → List Op → List Op
-guarded of_pointer node pc first = op.Branch of_pointer node (suc pc + length first) ∷ first
+abbrev pub guarded : (of_pointer : Bool) → (here pc : ℕ) → List Op → List Op
+guarded of_pointer here pc first = op.Branch of_pointer here (suc pc + length first) ∷ first
 
-abbrev pub if_code : Option Bool → (node pc : ℕ) → (ℕ → List Op) → List Op
-if_code None node pc first = lacks_of node
-if_code (Some of_pointer) node pc first = guarded of_pointer node pc (first (suc pc))
+abbrev pub if_code : Option Bool → (here pc : ℕ) → (ℕ → List Op) → List Op
+if_code None here pc first = lacks_of here
+if_code (Some of_pointer) here pc first = guarded of_pointer here pc (first (suc pc))
 
-abbrev pub condition_code : Setting → (node otherwise pc : ℕ) → Typed → List Op
-condition_code setting node otherwise pc e = value_code setting pc e ++ branch_code (tests (operand_type e)) node otherwise
+abbrev pub condition_code : Setting → (here otherwise pc : ℕ) → Typed → List Op
+condition_code setting here otherwise pc e = value_code setting pc e ++ branch_code (tests (operand_type e)) here otherwise
 
 abbrev pub effect_code : Setting → (pc : ℕ) → Typed → List Op
 effect_code setting pc e = value_code setting pc e ++ op.Pop ∷ []
@@ -123,9 +123,9 @@ label_code tags to (node kind.Case label (more constant none)) = case_code (cons
 label_code tags to other = []
 
 -- A switch: its labels stand behind its arms. It is entered at its value, which is at the top.
-abbrev pub switching : (node pc : ℕ) → (arms labels : List Op) → (otherwise : ℕ) → List Op
-switching node pc arms labels otherwise =
-    op.Narrow scalar.Word node
+abbrev pub switching : (here pc : ℕ) → (arms labels : List Op) → (otherwise : ℕ) → List Op
+switching here pc arms labels otherwise =
+    op.Narrow scalar.Word here
     ∷ op.Jump (suc (suc (suc (suc pc)) + length arms))
     ∷ op.Jump (suc (suc (suc (suc (suc (suc pc)) + length arms) + length labels)))
     ∷ (arms ++ (op.Jump (suc (suc pc)) ∷ (labels ++ op.Pop ∷ op.Jump otherwise ∷ [])))
@@ -190,18 +190,18 @@ abbrev mutual
       else default_at setting ends (pc + length (statement_code setting ends pc first)) otherwise others
 
   -- `for` behind its first part
-  pub for_code : Setting → Ends → (node : ℕ) → (test step : Bool) → (pc : ℕ) → TypedRow → List Op
-  for_code setting ends node true true pc (more test (more step (more body none))) =
-      loop_code true pc (λ m. effect_code setting m step) (λ m. condition_code setting node (suc pc) m test)
+  pub for_code : Setting → Ends → (here : ℕ) → (test step : Bool) → (pc : ℕ) → TypedRow → List Op
+  for_code setting ends here true true pc (more test (more step (more body none))) =
+      loop_code true pc (λ m. effect_code setting m step) (λ m. condition_code setting here (suc pc) m test)
       (λ m. statement_code setting (in_loop pc ends) m body)
-  for_code setting ends node true false pc (more test (more body none)) =
-      loop_code true pc no_code (λ m. condition_code setting node (suc pc) m test)
+  for_code setting ends here true false pc (more test (more body none)) =
+      loop_code true pc no_code (λ m. condition_code setting here (suc pc) m test)
       (λ m. statement_code setting (in_loop pc ends) m body)
-  for_code setting ends node false true pc (more step (more body none)) =
+  for_code setting ends here false true pc (more step (more body none)) =
       loop_code true pc (λ m. effect_code setting m step) no_code (λ m. statement_code setting (in_loop pc ends) m body)
-  for_code setting ends node false false pc (more body none) =
+  for_code setting ends here false false pc (more body none) =
       loop_code true pc no_code no_code (λ m. statement_code setting (in_loop pc ends) m body)
-  for_code setting ends node test step pc others = lacks node
+  for_code setting ends here test step pc others = lacks here
 
 -- FUNCTIONS: in front of a function's body stands how it is left
 
