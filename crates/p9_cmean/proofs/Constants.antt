@@ -10,7 +10,7 @@ use Rattle.p9_lang.specs.Types.{TypeTree, Void, Pointer, Array, Function, Tagged
 use Rattle.p9_lang.specs.Trees.{node, none, more}
 use Rattle.p9_lang.specs.Layout.{Extent, layout, size_of, size_in, size_limit}
 use Rattle.p9_lang.specs.Modules.{Typed, TypedRow}
-use Rattle.p9_lang.specs.Conversions.{is_integer, decayed}
+use Rattle.p9_lang.specs.Conversions.{is_integer, is_pointer, decayed}
 use Rattle.p9_lang.specs.Constants.{Constant, NotConstant, Undefined, Value, Null, WordFault, truth, word_operation, works_unsigned, narrowed, on_word, also, value_or_undefined, cast_constant, null_if, size_constant, size_constant_in, type_at, constant_of, enumeration_constant}
 use Rattle.p9_cmean.specs.declared.Place.{Place}
 use Rattle.p9_cmean.specs.Cells as cells
@@ -18,7 +18,7 @@ use Rattle.p9_cmean.specs.Cells.{Word, Object, State}
 use Rattle.p9_cmean.specs.Plays.{Play, Done, bind}
 use Rattle.p9_cmean.specs.Contents.{content_of}
 use Rattle.p9_cmean.specs.Operators.{operation, of_integers, word_or_cause}
-use Rattle.p9_cmean.specs.Places.{done_at, or_no_meaning}
+use Rattle.p9_cmean.specs.Places.{used, done_at, or_no_meaning}
 use Rattle.p9_cmean.specs.Expressions as x
 use Rattle.p9_cmean.specs.Expressions.{Surroundings, at, operand_type, value}
 use Rattle.p9_cmean.specs.ConstantLaws.{HasIntegerType, ConstantsAreTyped, ConstantsKeepTheirValues}
@@ -106,6 +106,15 @@ operate_operands : (around : Surroundings) (pl : Place) (op : CBinary) (t u : Ty
 operate_operands around pl op t u m n w s h g k =
     subst (λ i. x.operate around pl op i (decayed u) (Word m) (Word n) s ≡ Done (Word w) s) (sym (decayed_is t h))
     (subst (λ i. x.operate around pl op t i (Word m) (Word n) s ≡ Done (Word w) s) (sym (decayed_is u g)) (operate_is around pl op t u m n w s h g k))
+
+-- a left operand that is a number
+left_by : (b : Bool) (pl : Place) (n : ℕ) (s : State)
+    → (if b then used (Word n) s (λ w. Done w s) else x.promoted pl (Word n) s) ≡ Done (Word n) s
+left_by true pl n s = refl
+left_by false pl n s = refl
+
+left_is : (pl : Place) (type : TypeTree) (p : Play cells.Value) (n : ℕ) (s : State) → p ≡ Done (Word n) s → x.left_operand pl type p ≡ Done (Word n) s
+left_is pl type p n s h = ap (λ q. x.left_operand pl type q) h ∙ left_by (is_pointer type) pl n s
 
 -- CHOICES
 
@@ -251,7 +260,8 @@ module _ (around : Surroundings) where
       let f : ℕ → ℕ → Constant = λ m n. value_or_undefined (word_operation op (works_unsigned op (type_at l) (type_at r)) m n) in
       let a : FromWord (λ m. on_word (f m) (c_of r)) (c_of l) w = from_word (λ m. on_word (f m) (c_of r)) (c_of l) w (from_also (c_of r) (on_word (λ m. on_word (f m) (c_of r)) (c_of l)) w h) in
       let b : FromWord (f a.0) (c_of r) w = from_word (f a.0) (c_of r) w a.2 in
-      after l a.0 s _ (constants_are l a.0 s t.2.0 a.1)
+      ap (λ p. bind p (λ v u. bind (value around r u) (λ y z. x.operate around (at around label) op (operand_type l) (operand_type r) v y z)))
+      (left_is (at around label) (operand_type l) (value around l s) a.0 s (constants_are l a.0 s t.2.0 a.1))
       ∙ after r b.0 s _ (constants_are r b.0 s t.2.1.0 b.1)
       ∙ operate_operands around (at around label) op (type_at l) (type_at r) a.0 b.0 w s (typed_of around.tags l t.2.0 a.0 a.1) (typed_of around.tags r t.2.1.0 b.0 b.1) b.2
   constants_are (node kind.Choose label (more test (more first (more second none)))) w s t h =

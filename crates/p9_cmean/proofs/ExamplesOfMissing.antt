@@ -3,7 +3,7 @@ use Rattle.std.proofs.Common.{◌≡◌, [], Some, refl}
 use Rattle.p9_cmean.specs.declared.Cause.TheVariants as cause
 use Rattle.p9_cmean.specs.CRun.{source_run}
 use Rattle.p9_cmean.specs.ExampleRuns.{Ends, IsUndefined, run}
-use Rattle.p9_cmean.specs.ExamplesOfMissing.{unused, as_operand, as_test, as_argument, as_result, as_part, as_address, as_case, null_substructure, copied_past_the_end, misaligned_first, before_its_object, compared_outside, unsigned_count, negative_index, called_dead, updated_unset, within_parentheses, written_pointer, pointer_as_text, written_null, read_to_null, dead_text, RunsOfMissing}
+use Rattle.p9_cmean.specs.ExamplesOfMissing.{unused, as_operand, as_left_operand, as_test, as_argument, as_result, as_part, as_address, as_case, null_substructure, copied_past_the_end, misaligned_first, before_its_object, compared_outside, unsigned_count, negative_index, called_dead, updated_unset, within_parentheses, written_pointer, pointer_as_text, written_null, read_to_null, dead_text, RunsOfMissing}
 
 runs_unused_is : run unused [] 5 ≡ Some (Ends [] [] [])
 unfolding run source_run
@@ -12,6 +12,10 @@ runs_unused_is = refl
 runs_as_operand_is : run as_operand [] 2 ≡ Some (IsUndefined [] cause.NoValue 0 11)
 unfolding run source_run
 runs_as_operand_is = refl
+
+runs_as_left_operand_is : run as_left_operand [] 5 ≡ Some (IsUndefined [] cause.NoValue 0 15)
+unfolding run source_run
+runs_as_left_operand_is = refl
 
 runs_as_test_is : run as_test [] 2 ≡ Some (IsUndefined [] cause.NoValue 0 7)
 unfolding run source_run
@@ -101,6 +105,7 @@ pub runs_of_missing : RunsOfMissing
 runs_of_missing = record {
   runs_unused = runs_unused_is;
   runs_as_operand = runs_as_operand_is;
+  runs_as_left_operand = runs_as_left_operand_is;
   runs_as_test = runs_as_test_is;
   runs_as_argument = runs_as_argument_is;
   runs_as_result = runs_as_result_is;

@@ -12,7 +12,7 @@ use Rattle.p9_lang.specs.Types as types
 use Rattle.p9_lang.specs.Trees.{node, none, more}
 use Rattle.p9_lang.specs.Layout.{size_of, alignment_of}
 use Rattle.p9_lang.specs.Modules.{Label, Typed, TypedRow}
-use Rattle.p9_lang.specs.Conversions.{is_integer, is_structure, Conversion, Same, Null, Inner, No}
+use Rattle.p9_lang.specs.Conversions.{is_integer, is_pointer, is_structure, Conversion, Same, Null, Inner, No}
 use Rattle.p9_lang.specs.Conversions as conversions
 use Rattle.p9_lang.specs.Constants.{truth, type_at}
 use Rattle.p9_cmean.specs.declared.Cause.{Cause}
@@ -139,6 +139,12 @@ module _
     p_operate : (around : Surroundings) (pl : Place) (op : CBinary) (left right : TypeTree) (a b : Value) (s : State) → P s (x.operate around pl op left right a b s)
     p_operate around pl op left right a b s = p_used a s _ (λ v. p_used b s _ (λ w. p_or_no pl s _ _ (λ r. p_done_at pl s r)))
 
+    p_left : (pl : Place) (type : TypeTree) (p : Play Value) (s : State) → P s p → P s (x.left_operand pl type p)
+    p_left pl type p s h =
+        p_bind s p _ h (λ v t.
+        p_if t (is_pointer type) (used v t (λ w. Done w t)) (x.promoted pl v t)
+        (p_used v t _ (λ w. done w t)) (p_used v t _ (λ w. p_done_at pl t (of_integer (λ n. n) w))))
+
     pub p_test : (pl : Place) (type : TypeTree) (v : Value) (s : State) → P s (x.test_at pl type v s)
     p_test pl type v s = p_used v s _ (λ w. p_or_no pl s _ _ (λ r. p_done_at pl s r))
 
@@ -190,7 +196,7 @@ module _
       p_address around (node (kind.Unary unary.Deref) label (more e none)) s =
           p_bind s (value around e s) _ (p_value around e s) (λ p t. p_used p t _ (λ q. done q t))
       p_address around (node kind.Index label (more a (more i none))) s =
-          p_bind s (value around a s) _ (p_value around a s) (λ p t. p_bind t (value around i t) _ (p_value around i t) (λ n u. p_operate around (at around label) operator.Add (operand_type a) (operand_type i) p n u))
+          p_bind s (x.left_operand (at around label) (operand_type a) (value around a s)) _ (p_left (at around label) (operand_type a) (value around a s) s (p_value around a s)) (λ p t. p_bind t (value around i t) _ (p_value around i t) (λ n u. p_operate around (at around label) operator.Add (operand_type a) (operand_type i) p n u))
       p_address around (node (kind.Dot arrow name) label (more e none)) s =
           p_bind s (value around e s) _ (p_value around e s) (λ p t.
           p_member around (at around label) arrow (if arrow then operand_type e else type_at e) name p t)
@@ -218,7 +224,7 @@ module _
       p_value around (node kind.Cast label (more type (more e none))) s =
           p_bind s (value around e s) _ (p_value around e s) (λ v t. p_cast (content_of label.type) label.type (at around label) v t)
       p_value around (node kind.Index label (more a (more i none))) s =
-          p_bind s (value around a s) _ (p_value around a s) (λ p t. p_bind t (value around i t) _ (p_value around i t) (λ n u.
+          p_bind s (x.left_operand (at around label) (operand_type a) (value around a s)) _ (p_left (at around label) (operand_type a) (value around a s) s (p_value around a s)) (λ p t. p_bind t (value around i t) _ (p_value around i t) (λ n u.
           p_bind u _ _ (p_operate around (at around label) operator.Add (operand_type a) (operand_type i) p n u) (λ q w.
           p_read around label.type (at around label) q w)))
       p_value around (node (kind.Dot arrow name) label (more e none)) s =
@@ -232,7 +238,7 @@ module _
           p_bind s (value around l s) _ (p_value around l s) (λ a t. p_bind t _ _ (p_test (at around label) (operand_type l) a t) (λ first u.
           p_if u first (Done (Word 1) u) _ (done (Word 1) u) (p_bind u (value around r u) _ (p_value around r u) (λ b w. p_bind w _ _ (p_test (at around label) (operand_type r) b w) (λ second y. done (Word (truth second)) y)))))
       p_value around (node (kind.Binary op) label (more l (more r none))) s =
-          p_bind s (value around l s) _ (p_value around l s) (λ a t. p_bind t (value around r t) _ (p_value around r t) (λ b u. p_operate around (at around label) op (operand_type l) (operand_type r) a b u))
+          p_bind s (x.left_operand (at around label) (operand_type l) (value around l s)) _ (p_left (at around label) (operand_type l) (value around l s) s (p_value around l s)) (λ a t. p_bind t (value around r t) _ (p_value around r t) (λ b u. p_operate around (at around label) op (operand_type l) (operand_type r) a b u))
       p_value around (node kind.Choose label (more test (more first (more second none)))) s =
           p_bind s (value around test s) _ (p_value around test s) (λ v t. p_bind t _ _ (p_test (at around label) (operand_type test) v t) (λ holds u.
           p_if u holds _ _

@@ -28,6 +28,14 @@ as_operand =
     ∷ effect
     (assign (used (codes "x")) (binary operator.Add (number 1 ∷ call (used (codes "f")) ([]) ∷ []))) ∷ []) ∷ []) ∷ []
 
+-- int f(void){ } int g(void){ exits(0); } void main(void){ f() + g(); }
+abbrev pub as_left_operand : List (List Syntax)
+as_left_operand =
+    (function (word.Int ∷ []) (no_parameters (named (codes "f")) ∷ block ([]) ∷ [])
+    ∷ function (word.Int ∷ [])
+    (no_parameters (named (codes "g")) ∷ block (effect (call (used (codes "exits")) (number 0 ∷ [])) ∷ []) ∷ [])
+    ∷ main (effect (binary operator.Add (call (used (codes "f")) ([]) ∷ call (used (codes "g")) ([]) ∷ [])) ∷ []) ∷ []) ∷ []
+
 -- int f(void){ } void main(void){ if(f()) exits(0); }
 abbrev pub as_test : List (List Syntax)
 as_test =
@@ -234,6 +242,7 @@ dead_text =
 pub record RunsOfMissing : Type 0 where
   pub runs_unused : run unused [] 5 ≡ Some (Ends [] [] [])
   pub runs_as_operand : run as_operand [] 2 ≡ Some (IsUndefined [] cause.NoValue 0 11)
+  pub runs_as_left_operand : run as_left_operand [] 5 ≡ Some (IsUndefined [] cause.NoValue 0 15)
   pub runs_as_test : run as_test [] 2 ≡ Some (IsUndefined [] cause.NoValue 0 7)
   pub runs_as_argument : run as_argument [] 2 ≡ Some (IsUndefined [] cause.NoValue 0 18)
   pub runs_as_result : run as_result [] 3 ≡ Some (IsUndefined [] cause.NoValue 0 7)

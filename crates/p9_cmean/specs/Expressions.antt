@@ -163,6 +163,12 @@ complemented place value s = used value s (λ v. done_at place s (of_integer wor
 abbrev pub promoted : Place → Value → State → Play Value
 promoted place value s = used value s (λ v. done_at place s (of_integer (λ n. n) v))
 
+-- The left of two operands is used before the right one is evaluated: it is a value, and a number where its type is no
+-- pointer.
+abbrev pub left_operand : Place → TypeTree → Play Value → Play Value
+left_operand place type left =
+    bind left (λ v s. if is_pointer type then used v s (λ w. Done w s) else promoted place v s)
+
 -- What is read by `op=` is an operand, and what comes of it is assigned: a pointer of the same type, or
 -- an integer of the common type.
 abbrev pub result_conversion : Surroundings → (type right : TypeTree) → Conversion
@@ -278,7 +284,8 @@ abbrev mutual
   address around (node (kind.Unary unary.Deref) label (more e none)) s =
       bind (value around e s) (λ p t. used p t (λ q. Done q t))
   address around (node kind.Index label (more array (more index none))) s =
-      bind (value around array s) (λ a t. bind (value around index t) (λ i u.
+      bind (left_operand (at around label) (operand_type array) (value around array s)) (λ a t.
+      bind (value around index t) (λ i u.
       operate around (at around label) operator.Add (operand_type array) (operand_type index) a i u))
   address around (node (kind.Dot arrow name) label (more e none)) s =
       bind (value around e s) (λ p t.
@@ -310,7 +317,8 @@ abbrev mutual
   value around (node kind.Cast label (more type (more e none))) s =
       bind (value around e s) (λ v t. cast_to (content_of label.type) label.type (at around label) v t)
   value around (node kind.Index label (more array (more index none))) s =
-      bind (value around array s) (λ a t. bind (value around index t) (λ i u.
+      bind (left_operand (at around label) (operand_type array) (value around array s)) (λ a t.
+      bind (value around index t) (λ i u.
       bind (operate around (at around label) operator.Add (operand_type array) (operand_type index) a i u) (λ p w.
       read_at around label.type (at around label) p w)))
   value around (node (kind.Dot arrow name) label (more e none)) s =
@@ -328,7 +336,8 @@ abbrev mutual
       then Done (Word 1) u
       else bind (value around right u) (λ b w. bind (test_at (at around label) (operand_type right) b w) (λ second x. Done (Word (truth second)) x))))
   value around (node (kind.Binary op) label (more left (more right none))) s =
-      bind (value around left s) (λ a t. bind (value around right t) (λ b u.
+      bind (left_operand (at around label) (operand_type left) (value around left s)) (λ a t.
+      bind (value around right t) (λ b u.
       operate around (at around label) op (operand_type left) (operand_type right) a b u))
   value around (node kind.Choose label (more test (more first (more second none)))) s =
       bind (value around test s) (λ v t. bind (test_at (at around label) (operand_type test) v t) (λ holds u.

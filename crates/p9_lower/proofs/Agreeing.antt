@@ -16,7 +16,7 @@ use Rattle.p9_cmean.specs.CRun.{surroundings, start_of}
 use Rattle.p9_tree.specs.TRun.{symbol_pointer, symbols_at, environment}
 use Rattle.p9_lower.specs.Names.{has_no_number, is_outer_symbol, is_static_symbol}
 use Rattle.p9_lower.specs.Keeping.{is_function_at, Agree}
-use Rattle.p9_lower.proofs.Quiet.{left_true, right_true}
+use Rattle.p9_lower.proofs.Truths.{left_true, right_true}
 
 -- FOUND SYMBOLS
 

@@ -1,5 +1,5 @@
 -- Operators of two operands: the trees of their types do what the sources do.
-use Rattle.std.proofs.Common.{◌≡◌, ◌<◌, ℕ, ◌+◌, ◌-◌, ◌^◌, ◌==◌, ◌||◌, Bool, true, false, if◌then◌else◌, List, Option, Some, None, Result, Ok, refl, sym, ap, ◌∙◌, subst, nat_lt, nat_le, mod-lt, lit<, ◌⊎◌, inl, inr}
+use Rattle.std.proofs.Common.{◌≡◌, ◌<◌, ℕ, ◌+◌, ◌-◌, ◌^◌, ◌==◌, Bool, true, false, if◌then◌else◌, List, Option, Some, None, Result, Ok, refl, sym, ap, ◌∙◌, subst, nat_lt, nat_le, mod-lt, lit<}
 use Rattle.std.proofs.lemmas.Bool.{eqb-true}
 use Rattle.p9_base.specs.Words.{word_difference, word_product}
 use Rattle.p9_lang.specs.declared.tree.CBinary.{CBinary}
@@ -15,6 +15,7 @@ use Rattle.p9_cmean.specs.Cells as cells
 use Rattle.p9_cmean.specs.Plays.{Play, Done, bind}
 use Rattle.p9_cmean.specs.Places.{used, done_at, or_no_meaning}
 use Rattle.p9_cmean.specs.Access.{pointer_in}
+use Rattle.p9_cmean.specs.Expressions.{left_operand}
 use Rattle.p9_cmean.specs.Operators.{of_pointers, within_one, elements_between, moved_elements, whole_elements, element_offset, of_integers, two_pointers, pointer_and_integer, integer_and_pointer, if_integer, operation}
 use Rattle.p9_cmean.proofs.Plays.{bind_assoc}
 use Rattle.p9_tree.specs.declared.tree.BinOp.{BinOp}
@@ -23,17 +24,15 @@ use Rattle.p9_tree.specs.Same.{Same}
 use Rattle.p9_tree.specs.Trees.{Tree, Bin}
 use Rattle.p9_tree.specs.Operations.{of_two}
 use Rattle.p9_tree.specs.Meaning.{Environment, evaluate, operate}
-use Rattle.p9_tree.specs.Charges.{pure}
 use Rattle.p9_tree.proofs.Same.{same_bind}
 use Rattle.p9_lower.specs.Operators.{word_operator, moved_tree, scaled_tree, forward_tree, divided_tree, pointers_tree, pointer_integer_tree, integer_pointer_tree, binary_tree}
 use Rattle.p9_lower.specs.Premises.{is_size, works_on_words, operands_are_sound}
 use Rattle.p9_lower.specs.Keeping.{Stands}
-use Rattle.p9_lower.proofs.Plays.{stands_refl, along, used_free, given_same, operands_same}
+use Rattle.p9_lower.proofs.Plays.{along, used_free, given_same, operands_same}
 use Rattle.p9_lower.proofs.Moving.{moved_value, Moves, elements_move, word_added, added_to_word, word_subtracted, one_element_moved}
 use Rattle.p9_lower.proofs.Operating.{some_ok, of_integer_type, compared_is, equality_is, inequality_is, Between, pointers_differ, whole_divided, whole_of_one, integers_are}
 use Rattle.p9_lower.proofs.Trees.{operated, SymbolsMove, moved_is, scaled_is, elements_in, forward_is, divided_in, divided_is, second_scaled}
-use Rattle.p9_lower.proofs.Sure.{GivesWords, StandsWord, words_same}
-use Rattle.p9_lower.proofs.Quiet.{pure_is_quiet, quiet_source, quiet_same}
+use Rattle.p9_lower.proofs.Left.{StandsWord, left_same, left_word}
 
 -- OF TWO VALUES
 
@@ -91,27 +90,19 @@ less_are size type s v w x e =
     subst (λ y. bind (operate bin.Mul y (Word size) s) (λ m u. operate bin.Sub v m u) ≡ Done x s) (sym m.counts)
     (operated bin.Sub s v (Word (word_product m.count size)) x (word_subtracted s.objects v m.pointer (word_product m.count size) m.points ∙ ap Ok m.gives))
 
-second_true : (a b : Bool) → a ≡ false → (a || b) ≡ true → b ≡ true
-second_true true b h e = cc
-second_true false b h e = e
-
-either_true : (a b : Bool) → (a || b) ≡ true → (a ≡ true) ⊎ (b ≡ true)
-either_true true b e = inl refl
-either_true false b e = inr e
-
 -- OF TWO OPERANDS
 
 abbrev pub Operands : Place → (State → Value → Value → Option (Result Value Cause)) → Play Value → (State → Play Value) → Play Value
 Operands place r p k = bind p (λ a t. bind (k t) (λ b u. used a u (λ v. used b u (λ w. or_no_meaning place u (r u v w) (λ result. done_at place u result)))))
 
-module _ (env : Environment) (moves : SymbolsMove env) (place : Place) (tags : Tags) (p : Play Value) (k : State → Play Value) (a b : Tree) (s : State) (hp : Same Stands p (evaluate env a s)) (hk : (t : State) → Same Stands (k t) (evaluate env b t)) (sure : Bool) (words : sure ≡ true → GivesWords p) where
+module _ (env : Environment) (moves : SymbolsMove env) (place : Place) (tags : Tags) (p : Play Value) (k : State → Play Value) (a b : Tree) (s : State) (hp : Same Stands p (evaluate env a s)) (hk : (t : State) → Same Stands (k t) (evaluate env b t)) where
   plain_same : (r : State → Value → Value → Option (Result Value Cause)) (op : BinOp)
       → ((t : State) (v w x : Value) → r t v w ≡ Some (Ok x) → of_two op t.objects v w ≡ Ok x)
       → Same Stands (Operands place r p k) (evaluate env (Bin op a b) s)
   plain_same r op h =
       operands_same p (evaluate env a s) k (evaluate env b) place r (λ t v w. operate op v w t) hp hk (λ t v w x e. operated op t v w x (h t v w x e))
 
-  pointers_same : (op : CBinary) (target other : TypeTree) → operands_are_sound tags op (Pointer target) (Pointer other) sure b ≡ true
+  pointers_same : (op : CBinary) (target other : TypeTree) → operands_are_sound tags op (Pointer target) (Pointer other) ≡ true
       → Same Stands (Operands place (λ t v w. two_pointers op tags t.objects target v w) p k) (evaluate env (pointers_tree op (size_of tags target) a b) s)
   pointers_same operator.Sub target other h =
       along Stands (Operands place (λ t v w. two_pointers operator.Sub tags t.objects target v w) p k)
@@ -188,41 +179,22 @@ module _ (env : Environment) (moves : SymbolsMove env) (place : Place) (tags : T
       (bind (elements_in (size_of tags target) y t) (λ m x. bind (evaluate env b x) (λ w u. operate bin.Add m w u)))) g.0
       (sum_of target type n (size_of tags target == 1) refl t)
 
-  sum_behind : (target type : TypeTree) → pure b ≡ true → (v v' : Value) (t : State) → Stands v v'
-      → Same Stands (bind (k t) (λ c u. used v u (λ x. used c u (λ w. or_no_meaning place u (if_integer type (integer_and_pointer operator.Add tags u.objects type target x w)) (λ result. done_at place u result)))))
-      (bind (elements_in (size_of tags target) v' t) (λ m x. bind (evaluate env b x) (λ w u. operate bin.Add m w u)))
-  sum_behind target type h (Missing c) v' t g = quiet_same Stands (k t) _ _ (quiet_source Stands (k t) (evaluate env b t) (hk t) (pure_is_quiet env b t h)) (λ w u. tt)
-  sum_behind target type h (Address q) v' t g =
-      quiet_same Stands (k t) _ _ (quiet_source Stands (k t) (evaluate env b t) (hk t) (pure_is_quiet env b t h)) (λ w u.
-      used_free Stands w w u _ _ (stands_refl w) (given_same place u _ _ (λ x e.
-      let m : Moves false (size_of tags target) w (Address q) x = elements_move u.objects false (size_of tags target) type w (Address q) x (some_ok _ x (of_integer_type type _ _ e)) in
-      let f : Address q ≡ Word m.count = m.counts in cc)))
-  sum_behind target type h (Word n) v' t g = sum_word target type (Word n) v' t (g, tt)
-
-  -- a sure integer, or a pointer without effects
-  sum_either : (target type : TypeTree) → (sure ≡ true) ⊎ (pure b ≡ true)
-      → Same Stands (Operands place (λ t v w. if_integer type (integer_and_pointer operator.Add tags t.objects type target v w)) p k)
-      (bind (evaluate env a s) (λ v t. bind (elements_in (size_of tags target) v t) (λ m x. bind (evaluate env b x) (λ w u. operate bin.Add m w u))))
-  sum_either target type (inl w) =
-      same_bind StandsWord Stands p (evaluate env a s) _ _ (words_same p (evaluate env a s) (words w) hp) (λ v v' t g. sum_word target type v v' t g)
-  sum_either target type (inr h) = same_bind Stands Stands p (evaluate env a s) _ _ hp (λ v v' t g. sum_behind target type h v v' t g)
-
-  integer_pointer_same : (op : CBinary) (target type : TypeTree) → is_pointer type ≡ false → operands_are_sound tags op type (Pointer target) sure b ≡ true
+  integer_pointer_same : (op : CBinary) (target type : TypeTree) → Same StandsWord p (evaluate env a s)
       → Same Stands (Operands place (λ t v w. if_integer type (integer_and_pointer op tags t.objects type target v w)) p k) (evaluate env (integer_pointer_tree op (size_of tags target) a b) s)
-  integer_pointer_same operator.Add target type i h =
+  integer_pointer_same operator.Add target type h =
       along Stands (Operands place (λ t v w. if_integer type (integer_and_pointer operator.Add tags t.objects type target v w)) p k)
       (evaluate env (Bin bin.Add (forward_tree (size_of tags target) a) b) s)
       (bind (evaluate env a s) (λ v t. bind (elements_in (size_of tags target) v t) (λ m x. bind (evaluate env b x) (λ w u. operate bin.Add m w u))))
       (ap (λ r. bind r (λ m x. bind (evaluate env b x) (λ w u. operate bin.Add m w u))) (forward_is env (size_of tags target) a s)
       ∙ bind_assoc (evaluate env a s) (elements_in (size_of tags target)) (λ m x. bind (evaluate env b x) (λ w u. operate bin.Add m w u)))
-      (sum_either target type (either_true sure (pure b) (second_true (is_pointer type) (sure || pure b) i h)))
-  integer_pointer_same operator.Eq target type i h =
+      (same_bind StandsWord Stands p (evaluate env a s) _ _ h (λ v v' t g. sum_word target type v v' t g))
+  integer_pointer_same operator.Eq target type h =
       plain_same (λ t v w. if_integer type (integer_and_pointer operator.Eq tags t.objects type target v w)) bin.Eq
       (λ t v w x e. equality_is t.objects v w x (some_ok _ x (of_integer_type type _ _ e)))
-  integer_pointer_same operator.Ne target type i h =
+  integer_pointer_same operator.Ne target type h =
       plain_same (λ t v w. if_integer type (integer_and_pointer operator.Ne tags t.objects type target v w)) bin.Ne
       (λ t v w x e. inequality_is t.objects v w x (some_ok _ x (of_integer_type type _ _ e)))
-  integer_pointer_same op target type i h =
+  integer_pointer_same op target type h =
       plain_same (λ t v w. if_integer type (integer_and_pointer op tags t.objects type target v w)) (word_operator op true)
       (λ t v w x e. let f : None ≡ Some (Ok x) = of_integer_type type (integer_and_pointer op tags t.objects type target v w) (Ok x) e in cc)
 
@@ -233,9 +205,18 @@ module _ (env : Environment) (moves : SymbolsMove env) (place : Place) (tags : T
       plain_same (λ t v w. if_integer left (if_integer right (Some (of_integers op left right v w)))) (word_operator op (works_unsigned op left right))
       (λ t v w x e. integers_are op left right t.objects v w x h (some_ok _ x (of_integer_type right _ _ (of_integer_type left _ _ e))))
 
-  pub binary_same : (op : CBinary) (left right : TypeTree) → works_on_words op ≡ true → operands_are_sound tags op left right sure b ≡ true
+  operands_by : (op : CBinary) (left right : TypeTree) → works_on_words op ≡ true → operands_are_sound tags op left right ≡ true
+      → (is_pointer left ≡ false → Same StandsWord p (evaluate env a s))
       → Same Stands (Operands place (λ t v w. operation op tags t.objects left right v w) p k) (evaluate env (binary_tree tags op left right a b) s)
-  binary_same op (Pointer target) (Pointer other) h g = pointers_same op target other g
-  binary_same op (Pointer target) right h g = pointer_integer_same op target right
-  binary_same op left (Pointer target) h g = integer_pointer_same op target left refl g
-  binary_same op left right h g = integers_same op left right h
+  operands_by op (Pointer target) (Pointer other) h g f = pointers_same op target other g
+  operands_by op (Pointer target) right h g f = pointer_integer_same op target right
+  operands_by op left (Pointer target) h g f = integer_pointer_same op target left (f refl)
+  operands_by op left right h g f = integers_same op left right h
+
+pub binary_same : (env : Environment) (moves : SymbolsMove env) (place : Place) (tags : Tags) (p : Play Value) (k : State → Play Value) (a b : Tree) (s : State)
+    → Same Stands p (evaluate env a s) → ((t : State) → Same Stands (k t) (evaluate env b t))
+    → (op : CBinary) (left right : TypeTree) → works_on_words op ≡ true → operands_are_sound tags op left right ≡ true
+    → Same Stands (Operands place (λ t v w. operation op tags t.objects left right v w) (left_operand place left p) k) (evaluate env (binary_tree tags op left right a b) s)
+binary_same env moves place tags p k a b s hp hk op left right h g =
+    operands_by env moves place tags (left_operand place left p) k a b s (left_same place left p (evaluate env a s) hp) hk op left right h g
+    (λ e. left_word place left p (evaluate env a s) e hp)

@@ -23,7 +23,7 @@ use Rattle.p9_cmean.specs.Places.{used, or_wrong, done_at}
 use Rattle.p9_cmean.specs.Access.{and_go, pointer_in, is_dead, is_outside}
 use Rattle.p9_cmean.specs.Contents.{content_of}
 use Rattle.p9_cmean.specs.ConstantLaws.{ConstantsAreTyped, AllConstantsAreTyped}
-use Rattle.p9_cmean.specs.Expressions.{Surroundings, at, operand_type, lvalue_place, address_of_name, value_of_name, read_at, member_offset, member_at, operate, conversion_of, convert_at, assign, assign_scalar, assign_structure, test_at, parameters_of, pointed, function_at, gives_integer, answered_as, answered, call_through, address, value, values}
+use Rattle.p9_cmean.specs.Expressions.{Surroundings, at, operand_type, lvalue_place, address_of_name, value_of_name, read_at, member_offset, member_at, left_operand, operate, conversion_of, convert_at, assign, assign_scalar, assign_structure, test_at, parameters_of, pointed, function_at, gives_integer, answered_as, answered, call_through, address, value, values}
 use Rattle.p9_cmean.proofs.Plays.{bind_assoc}
 use Rattle.p9_tree.specs.declared.tree.UnOp.TheVariants as un
 use Rattle.p9_tree.specs.Same.{SameCall, Equal}
@@ -37,12 +37,11 @@ use Rattle.p9_tree.proofs.Same.{same_bind, same_if}
 use Rattle.p9_lower.specs.Names.{name_tree}
 use Rattle.p9_lower.specs.Operators.{width_of, stored_tree, read_tree, inner_tree, binary_tree, passed_tree, conversion_to, assigned_tree}
 use Rattle.p9_lower.specs.Expressions.{named_tree, place_tree, value_tree, argument_trees}
-use Rattle.p9_lower.specs.Premises.{is_sure, NameIsKnown, NodesAreSound, RowIsSound}
+use Rattle.p9_lower.specs.Premises.{NameIsKnown, NodesAreSound, RowIsSound}
 use Rattle.p9_lower.specs.Keeping.{Stands, Agree, setting_in}
 use Rattle.p9_lower.specs.Laws.{ValuesMean, PlacesMean}
 use Rattle.p9_lower.proofs.Plays.{stands_refl, stands_alike, along, used_free, used_same, result_same}
 use Rattle.p9_lower.proofs.Binary.{binary_same}
-use Rattle.p9_lower.proofs.Sure.{sure_words}
 use Rattle.p9_lower.proofs.Access.{then_same, name_same, read_same, inner_same, test_same, converted_same, cast_same, chosen_same, word_same, plus_same}
 use Rattle.p9_lower.proofs.Assigning.{scalar_same, structure_same}
 use Rattle.p9_lower.proofs.Updating.{updated_same, before_same, behind_same}
@@ -188,8 +187,7 @@ module _ (symbols : List Symbol) (around : Surroundings) (env : Environment) (ag
         binary_same env agree.moved (at around label) around.tags (value around array s) (value around index)
         (value_tree (setting_in symbols around) array) (value_tree (setting_in symbols around) index) s
         (value_same array s c.2.0 n.1.0) (λ t. value_same index t c.2.1.0 n.1.1.0)
-        (is_sure array) (λ w. sure_words around array s w)
-        operator.Add (operand_type array) (operand_type index) refl n.0
+        operator.Add (operand_type array) (operand_type index) refl refl
     place_same (node (kind.Dot arrow name) label (more e none)) s c n =
         inner_same env agree.moved (at around label) (member_offset around.tags arrow (if arrow then operand_type e else type_at e) name)
         (value around e s) (value_tree (setting_in symbols around) e) s (value_same e s c.2.0 n.1.0)
@@ -229,20 +227,19 @@ module _ (symbols : List Symbol) (around : Surroundings) (env : Environment) (ag
         cast_same env (content_of label.type) label.type (at around label) (value around e s) (value_tree (setting_in symbols around) e) s (value_same e s c.2.1.0 n.1.1.0)
     value_same (node kind.Index label (more array (more index none))) s c n =
         from_same Stands
-        (bind (bind (value around array s) (λ a t. bind (value around index t) (λ i u. operate around (at around label) operator.Add (operand_type array) (operand_type index) a i u)))
+        (bind (bind (left_operand (at around label) (operand_type array) (value around array s)) (λ a t. bind (value around index t) (λ i u. operate around (at around label) operator.Add (operand_type array) (operand_type index) a i u)))
         (λ p w. read_at around label.type (at around label) p w))
         (value around (node kind.Index label (more array (more index none))) s)
         (evaluate env (value_tree (setting_in symbols around) (node kind.Index label (more array (more index none)))) s)
-        (both_assoc (value around array s) (value around index) (λ a i u. operate around (at around label) operator.Add (operand_type array) (operand_type index) a i u)
+        (both_assoc (left_operand (at around label) (operand_type array) (value around array s)) (value around index) (λ a i u. operate around (at around label) operator.Add (operand_type array) (operand_type index) a i u)
         (λ p w. read_at around label.type (at around label) p w))
         (read_same env around label.type (at around label)
-        (bind (value around array s) (λ a t. bind (value around index t) (λ i u. operate around (at around label) operator.Add (operand_type array) (operand_type index) a i u)))
+        (bind (left_operand (at around label) (operand_type array) (value around array s)) (λ a t. bind (value around index t) (λ i u. operate around (at around label) operator.Add (operand_type array) (operand_type index) a i u)))
         (binary_tree around.tags operator.Add (operand_type array) (operand_type index) (value_tree (setting_in symbols around) array) (value_tree (setting_in symbols around) index)) s
         (binary_same env agree.moved (at around label) around.tags (value around array s) (value around index)
         (value_tree (setting_in symbols around) array) (value_tree (setting_in symbols around) index) s
         (value_same array s c.2.0 n.1.0) (λ t. value_same index t c.2.1.0 n.1.1.0)
-        (is_sure array) (λ w. sure_words around array s w)
-        operator.Add (operand_type array) (operand_type index) refl n.0))
+        operator.Add (operand_type array) (operand_type index) refl refl))
     value_same (node (kind.Dot arrow name) label (more e none)) s c n =
         from_same Stands
         (bind (bind (value around e s) (λ p t. member_at around (at around label) arrow (if arrow then operand_type e else type_at e) name p t))
@@ -272,7 +269,6 @@ module _ (symbols : List Symbol) (around : Surroundings) (env : Environment) (ag
         binary_same env agree.moved (at around label) around.tags (value around left s) (value around right)
         (value_tree (setting_in symbols around) left) (value_tree (setting_in symbols around) right) s
         (value_same left s c.2.0 n.1.0) (λ t. value_same right t c.2.1.0 n.1.1.0)
-        (is_sure left) (λ w. sure_words around left s w)
         op (operand_type left) (operand_type right) refl n.0
     value_same (node kind.Choose label (more which (more first (more second none)))) s c n =
         same_bind Stands Stands (value around which s) (evaluate env (value_tree (setting_in symbols around) which) s) _ _ (value_same which s c.2.0 n.1.0) (λ a a' t g.

@@ -3,8 +3,8 @@ pub mod Widths
 pub mod Moving
 pub mod Operating
 pub mod Trees
-pub mod Quiet
-pub mod Sure
+pub mod Truths
+pub mod Left
 pub mod Binary
 pub mod Access
 pub mod Assigning

@@ -13,7 +13,7 @@ use Rattle.p9_tree.specs.Means.{IsSmall, FunctionsMean, code_of, first_of, code_
 use Rattle.p9_lower.specs.Names.{Setting}
 use Rattle.p9_lower.specs.Statements.{stmt_tree}
 use Rattle.p9_lower.specs.Modules.{setting_of, function_of, function_or_empty, item_function, functions_from, initialiser_of, initialisers_from}
-use Rattle.p9_lower.specs.Premises.{function_setting, FunctionIsSound, ItemIsSound, ItemsAreSound}
+use Rattle.p9_lower.specs.Premises.{function_setting, ItemIsSound, ItemsAreSound}
 use Rattle.p9_lower.specs.Laws.{FunctionsMeanSame, PartsAreSame, LoweredMeans}
 use Rattle.p9_lower.proofs.Contents.{contents_mean_same}
 use Rattle.p9_lower.proofs.Functions.{bodies_same, need_is, parameters_first}
@@ -27,11 +27,11 @@ small_code c b n h g = omega arith
 small_frame : (c b n : ℕ) → c ≤ b → b + 1 ≤ n → c ≤ n
 small_frame c b n h g = omega arith
 
-is_small : (m : Source) (symbol : ℕ) (item : Typed) (d : Definition) → definition_of item ≡ Some d → FunctionIsSound m d → IsSmall (function_of (setting_of m) symbol item d)
-is_small m symbol item d e sound = record {
+is_small : (m : Source) (symbol : ℕ) (item : Typed) (d : Definition) → definition_of item ≡ Some d → IsSmall (function_of (setting_of m) symbol item d)
+is_small m symbol item d e = record {
   code = small_code (stmt_charge (stmt_tree (function_setting m d) d.block)) (weighed_nodes d.block) (weighed_nodes item) (statement_charge (function_setting m d) d.block) (block_of_item item d e);
   frame = small_frame (stmt_waiting (stmt_tree (function_setting m d) d.block)) (weighed_nodes d.block) (weighed_nodes item)
-      (statement_waits (function_setting m d) d.block sound.waits) (block_of_item item d e);
+      (statement_waits (function_setting m d) d.block) (block_of_item item d e);
 }
 
 -- FUNCTIONS
@@ -43,10 +43,10 @@ module _ (m : Source) (modules : List Source) (owner : ℕ) (here : slice_get mo
   function_by symbol k item None es fs e h g = absurd h
   function_by symbol k item (Some d) es fs e h g = (
     record {
-      bodies = λ turns call other s same. bodies_same modules owner m here turns k item d h.block call other s same;
+      bodies = λ turns call other s same. bodies_same modules owner m here turns k item d h call other s same;
       need = need_is m k item d;
       parameters = parameters_first m k item d;
-      small = is_small m k item d e h;
+      small = is_small m k item d e;
       no_goto = statement_goes (function_setting m d) d.block;
     },
     g,

@@ -18,7 +18,6 @@ use Rattle.p9_lower.specs.Names.{Setting, name_tree}
 use Rattle.p9_lower.specs.Operators.{assigned_tree}
 use Rattle.p9_lower.specs.Expressions.{value_tree}
 use Rattle.p9_lower.specs.Statements.{initial_tree, with_initial, initial_trees, sequence, effects, case_arm, first_stmt, stmt_tree, stmt_trees, loop_tree, arm_trees}
-use Rattle.p9_lower.specs.Premises.{NodesWait, RowWaits}
 use Rattle.p9_lower.proofs.Charging.{weight_is, name_charge, assigned_charge, passed_charge, value_charge}
 use Rattle.p9_lower.proofs.Waiting.{name_waits, assigned_waits, passed_waits, value_waits}
 
@@ -81,7 +80,7 @@ abbrev room : ℕ → Option Typed → ℕ
 room unit None = 0
 room unit (Some e) = unit * weighed_nodes e
 
--- an initialiser is charged no more than its nodes, and waits no more than one above them
+-- an initialiser is charged no more than its nodes, and waits no more than these
 initial_charge : (setting : Setting) (type : TypeTree) (means : Meant) (e : Typed)
     → charge (assigned_tree setting.tags e type (name_tree setting means) (value_tree setting e)) ≤ 64 * weighed_nodes e
 initial_charge setting type means e =
@@ -91,13 +90,13 @@ initial_charge setting type means e =
     let f : charge (value_tree setting e) + 40 ≤ 64 * weighed_nodes e = value_charge setting e in
     omega arith
 
-initial_waits : (setting : Setting) (type : TypeTree) (means : Meant) (e : Typed) → NodesWait setting e
-    → waiting (assigned_tree setting.tags e type (name_tree setting means) (value_tree setting e)) ≤ 1 + 1 * weighed_nodes e
-initial_waits setting type means e n =
-    let h : waiting (assigned_tree setting.tags e type (name_tree setting means) (value_tree setting e)) ≤ 2 + (waiting (name_tree setting means) + waiting (value_tree setting e)) =
+initial_waits : (setting : Setting) (type : TypeTree) (means : Meant) (e : Typed)
+    → waiting (assigned_tree setting.tags e type (name_tree setting means) (value_tree setting e)) ≤ 1 * weighed_nodes e
+initial_waits setting type means e =
+    let h : waiting (assigned_tree setting.tags e type (name_tree setting means) (value_tree setting e)) ≤ suc (waiting (name_tree setting means) + waiting (value_tree setting e)) =
     assigned_waits setting.tags e type (name_tree setting means) (value_tree setting e) in
     let g : waiting (name_tree setting means) ≤ 0 = name_waits setting means in
-    let f : waiting (value_tree setting e) + 1 ≤ weighed_nodes e = value_waits setting e n in
+    let f : waiting (value_tree setting e) + 1 ≤ weighed_nodes e = value_waits setting e in
     omega arith
 
 no_more : (n : ℕ) → 0 ≤ n
@@ -117,19 +116,15 @@ automatic_charge : (setting : Setting) (l : Option Label) (o : Option Typed) →
 automatic_charge setting None o = no_more (room 64 o)
 automatic_charge setting (Some l) o = one_charge setting l.number l.token l.type l.means o
 
-abbrev OptionWaits : Setting → Option Typed → Type 0
-OptionWaits setting None = Unit {0}
-OptionWaits setting (Some e) = NodesWait setting e
+one_waits : (setting : Setting) (number token : ℕ) (type : TypeTree) (means : Meant) (o : Option Typed)
+    → total waiting (initial_trees setting (automatic (Some (record { number = number; token = token; type = type; means = means })) o)) ≤ room 1 o
+one_waits setting number token type (Auto k) None = lit≤ tt
+one_waits setting number token type (Auto k) (Some e) = plus_none _ (1 * weighed_nodes e) (initial_waits setting type (Auto k) e)
+one_waits setting number token type means o = no_more (room 1 o)
 
-one_waits : (setting : Setting) (number token : ℕ) (type : TypeTree) (means : Meant) (o : Option Typed) → OptionWaits setting o
-    → total waiting (initial_trees setting (automatic (Some (record { number = number; token = token; type = type; means = means })) o)) ≤ 1 + room 1 o
-one_waits setting number token type (Auto k) None n = lit≤ tt
-one_waits setting number token type (Auto k) (Some e) n = plus_none _ (1 + 1 * weighed_nodes e) (initial_waits setting type (Auto k) e n)
-one_waits setting number token type means o n = no_more (1 + room 1 o)
-
-automatic_waits : (setting : Setting) (l : Option Label) (o : Option Typed) → OptionWaits setting o → total waiting (initial_trees setting (automatic l o)) ≤ 1 + room 1 o
-automatic_waits setting None o n = no_more (1 + room 1 o)
-automatic_waits setting (Some l) o n = one_waits setting l.number l.token l.type l.means o n
+automatic_waits : (setting : Setting) (l : Option Label) (o : Option Typed) → total waiting (initial_trees setting (automatic l o)) ≤ room 1 o
+automatic_waits setting None o = no_more (room 1 o)
+automatic_waits setting (Some l) o = one_waits setting l.number l.token l.type l.means o
 
 -- what is kept for the first of a row, where that is an initialiser
 abbrev kept : ℕ → TypedRow → ℕ
@@ -172,27 +167,19 @@ declared_charge setting (more part others) =
     (room 64 (initialiser others)) (weighed_row others) (weighed_nodes part)
     (automatic_charge setting (name_label part) (initialiser others)) (room_is 64 others) (declared_charge setting others))
 
-waits_step : (b : Bool) (x y k r w v : ℕ) → x ≤ 1 + r → r ≡ k → y + k ≤ w → 1 ≤ v → (if b then x else 0) + y + (if b then 0 else 1 * v) ≤ v + w
-waits_step true x y k r w v h e g i = omega arith
-waits_step false x y k r w v h e g i = omega arith
+waits_step : (b : Bool) (x y k r w v : ℕ) → x ≤ r → r ≡ k → y + k ≤ w → (if b then x else 0) + y + (if b then 0 else 1 * v) ≤ v + w
+waits_step true x y k r w v h e g = omega arith
+waits_step false x y k r w v h e g = omega arith
 
-option_by : (setting : Setting) (b : Bool) (t : Typed) → NodesWait setting t → OptionWaits setting (if b then None else Some t)
-option_by setting true t n = tt
-option_by setting false t n = n
-
-option_waits : (setting : Setting) (row : TypedRow) → RowWaits setting row → OptionWaits setting (initialiser row)
-option_waits setting none n = tt
-option_waits setting (more t ts) n = option_by setting (is_declarator (kind_of_node t)) t n.0
-
-declared_waits : (setting : Setting) (row : TypedRow) → RowWaits setting row → total waiting (initial_trees setting (automatics_in row)) + kept 1 row ≤ weighed_row row
-declared_waits setting none n = lit≤ tt
-declared_waits setting (more part others) n =
+declared_waits : (setting : Setting) (row : TypedRow) → total waiting (initial_trees setting (automatics_in row)) + kept 1 row ≤ weighed_row row
+declared_waits setting none = lit≤ tt
+declared_waits setting (more part others) =
     let b = is_declarator (kind_of_node part) in
     subst (λ n. n + (if b then 0 else 1 * weighed_nodes part) ≤ weighed_nodes part + weighed_row others)
     (sym (row_by b (total waiting (initial_trees setting (automatic (name_label part) (initialiser others)))) (automatic (name_label part) (initialiser others)) (automatics_in others) waiting setting refl))
     (waits_step b (total waiting (initial_trees setting (automatic (name_label part) (initialiser others)))) (total waiting (initial_trees setting (automatics_in others))) (kept 1 others)
     (room 1 (initialiser others)) (weighed_row others) (weighed_nodes part)
-    (automatic_waits setting (name_label part) (initialiser others) (option_waits setting others n.1)) (room_is 1 others) (declared_waits setting others n.1) (nodes_are part))
+    (automatic_waits setting (name_label part) (initialiser others)) (room_is 1 others) (declared_waits setting others))
 
 -- STATEMENTS: their code
 
@@ -348,7 +335,7 @@ waits_loop l v h = omega arith
 waits_switch : (c a w v : ℕ) → c + 1 ≤ w → a ≤ v → suc (c + a) ≤ w + v + 1
 waits_switch c a w v h g = omega arith
 
-waits_return : (c c' w : ℕ) → c' ≤ 1 + c → c + 1 ≤ w → c' ≤ w + 0 + 1
+waits_return : (c c' w : ℕ) → c' ≤ c → c + 1 ≤ w → c' ≤ w + 0 + 1
 waits_return c c' w h g = omega arith
 
 waits_row : (a b v w : ℕ) → a ≤ v → b ≤ w → a + b ≤ v + w
@@ -393,63 +380,63 @@ case_waits Null others v w h = waits_none (arms_waiting others) v w h
 
 module _ (setting : Setting) where
   mutual
-    pub statement_waits : (n : Typed) → NodesWait setting n → stmt_waiting (stmt_tree setting n) ≤ weighed_nodes n
-    statement_waits (node kind.Block label parts) h = waits_block (row_waiting (stmt_trees setting parts)) (weighed_row parts) (statements_wait parts h.1)
-    statement_waits (node (kind.Declaration spec inits) label parts) h =
+    pub statement_waits : (n : Typed) → stmt_waiting (stmt_tree setting n) ≤ weighed_nodes n
+    statement_waits (node kind.Block label parts) = waits_block (row_waiting (stmt_trees setting parts)) (weighed_row parts) (statements_wait parts)
+    statement_waits (node (kind.Declaration spec inits) label parts) =
         subst (λ k. k ≤ weighed_row parts + 1) (sym (effects_wait (initial_trees setting (automatics_in parts))))
-        (waits_kept (total waiting (initial_trees setting (automatics_in parts))) (kept 1 parts) (weighed_row parts) (declared_waits setting parts h.1))
-    statement_waits (node kind.Expression label none) h = lit≤ tt
-    statement_waits (node kind.Expression label (more e none)) h = waits_one (waiting (value_tree setting e)) (weighed_nodes e) (value_waits setting e h.1.0)
-    statement_waits (node kind.If label (more test (more first none))) h =
-        waits_two (waiting (value_tree setting test)) (stmt_waiting (stmt_tree setting first)) (weighed_nodes test) (weighed_nodes first) (value_waits setting test h.1.0) (statement_waits first h.1.1.0)
-    statement_waits (node kind.If label (more test (more first (more second none)))) h =
+        (waits_kept (total waiting (initial_trees setting (automatics_in parts))) (kept 1 parts) (weighed_row parts) (declared_waits setting parts))
+    statement_waits (node kind.Expression label none) = lit≤ tt
+    statement_waits (node kind.Expression label (more e none)) = waits_one (waiting (value_tree setting e)) (weighed_nodes e) (value_waits setting e)
+    statement_waits (node kind.If label (more test (more first none))) =
+        waits_two (waiting (value_tree setting test)) (stmt_waiting (stmt_tree setting first)) (weighed_nodes test) (weighed_nodes first) (value_waits setting test) (statement_waits first)
+    statement_waits (node kind.If label (more test (more first (more second none)))) =
         waits_else (waiting (value_tree setting test)) (stmt_waiting (stmt_tree setting first)) (stmt_waiting (stmt_tree setting second)) (weighed_nodes test) (weighed_nodes first) (weighed_nodes second)
-        (value_waits setting test h.1.0) (statement_waits first h.1.1.0) (statement_waits second h.1.1.1.0)
-    statement_waits (node kind.While label (more test (more body none))) h =
-        waits_two (waiting (value_tree setting test)) (stmt_waiting (stmt_tree setting body)) (weighed_nodes test) (weighed_nodes body) (value_waits setting test h.1.0) (statement_waits body h.1.1.0)
-    statement_waits (node kind.Do label (more body (more test none))) h =
-        waits_do (waiting (value_tree setting test)) (stmt_waiting (stmt_tree setting body)) (weighed_nodes test) (weighed_nodes body) (value_waits setting test h.1.1.0) (statement_waits body h.1.0)
-    statement_waits (node (kind.For true test step) label (more first others)) h =
+        (value_waits setting test) (statement_waits first) (statement_waits second)
+    statement_waits (node kind.While label (more test (more body none))) =
+        waits_two (waiting (value_tree setting test)) (stmt_waiting (stmt_tree setting body)) (weighed_nodes test) (weighed_nodes body) (value_waits setting test) (statement_waits body)
+    statement_waits (node kind.Do label (more body (more test none))) =
+        waits_do (waiting (value_tree setting test)) (stmt_waiting (stmt_tree setting body)) (weighed_nodes test) (weighed_nodes body) (value_waits setting test) (statement_waits body)
+    statement_waits (node (kind.For true test step) label (more first others)) =
         waits_for (stmt_waiting (loop_tree setting (Some (value_tree setting first)) test step others)) (waiting (value_tree setting first)) (weighed_nodes first) (weighed_row others)
-        (loop_waits (Some (value_tree setting first)) test step others h.1.1) (value_waits setting first h.1.0)
-    statement_waits (node (kind.For false test step) label others) h =
-        waits_loop (stmt_waiting (loop_tree setting None test step others)) (weighed_row others) (loop_waits None test step others h.1)
-    statement_waits (node kind.Switch label (more e arms)) h =
-        waits_switch (waiting (value_tree setting e)) (arms_waiting (arm_trees setting arms)) (weighed_nodes e) (weighed_row arms) (value_waits setting e h.1.0) (switch_waits arms h.1.1)
-    statement_waits (node kind.Case label (more constant none)) h = no_more (weighed_nodes constant + 0 + 1)
-    statement_waits (node kind.Default label none) h = lit≤ tt
-    statement_waits (node kind.Break label none) h = lit≤ tt
-    statement_waits (node kind.Continue label none) h = lit≤ tt
-    statement_waits (node kind.Return label none) h = lit≤ tt
-    statement_waits (node kind.Return label (more e none)) h =
-        waits_return (waiting (value_tree setting e)) _ (weighed_nodes e) (passed_waits setting.tags e setting.result (value_tree setting e)) (value_waits setting e h.1.0)
-    statement_waits (node k label parts) h = no_more (weighed_row parts + weight_of k)
+        (loop_waits (Some (value_tree setting first)) test step others) (value_waits setting first)
+    statement_waits (node (kind.For false test step) label others) =
+        waits_loop (stmt_waiting (loop_tree setting None test step others)) (weighed_row others) (loop_waits None test step others)
+    statement_waits (node kind.Switch label (more e arms)) =
+        waits_switch (waiting (value_tree setting e)) (arms_waiting (arm_trees setting arms)) (weighed_nodes e) (weighed_row arms) (value_waits setting e) (switch_waits arms)
+    statement_waits (node kind.Case label (more constant none)) = no_more (weighed_nodes constant + 0 + 1)
+    statement_waits (node kind.Default label none) = lit≤ tt
+    statement_waits (node kind.Break label none) = lit≤ tt
+    statement_waits (node kind.Continue label none) = lit≤ tt
+    statement_waits (node kind.Return label none) = lit≤ tt
+    statement_waits (node kind.Return label (more e none)) =
+        waits_return (waiting (value_tree setting e)) _ (weighed_nodes e) (passed_waits setting.tags e setting.result (value_tree setting e)) (value_waits setting e)
+    statement_waits (node k label parts) = no_more (weighed_row parts + weight_of k)
 
-    statements_wait : (row : TypedRow) → RowWaits setting row → row_waiting (stmt_trees setting row) ≤ weighed_row row
-    statements_wait none h = lit≤ tt
-    statements_wait (more first others) h =
-        waits_row (stmt_waiting (stmt_tree setting first)) (row_waiting (stmt_trees setting others)) (weighed_nodes first) (weighed_row others) (statement_waits first h.0) (statements_wait others h.1)
+    statements_wait : (row : TypedRow) → row_waiting (stmt_trees setting row) ≤ weighed_row row
+    statements_wait none = lit≤ tt
+    statements_wait (more first others) =
+        waits_row (stmt_waiting (stmt_tree setting first)) (row_waiting (stmt_trees setting others)) (weighed_nodes first) (weighed_row others) (statement_waits first) (statements_wait others)
 
-    switch_waits : (row : TypedRow) → RowWaits setting row → arms_waiting (arm_trees setting row) ≤ weighed_row row
-    switch_waits none h = lit≤ tt
-    switch_waits (more (node kind.Case label (more constant none)) others) h =
-        case_waits (constant_of setting.tags constant) (arm_trees setting others) (weighed_nodes (node kind.Case label (more constant none))) (weighed_row others) (switch_waits others h.1)
-    switch_waits (more (node kind.Default label none) others) h = waits_past (arms_waiting (arm_trees setting others)) 1 (weighed_row others) (switch_waits others h.1)
-    switch_waits (more (node k label parts) others) h =
+    switch_waits : (row : TypedRow) → arms_waiting (arm_trees setting row) ≤ weighed_row row
+    switch_waits none = lit≤ tt
+    switch_waits (more (node kind.Case label (more constant none)) others) =
+        case_waits (constant_of setting.tags constant) (arm_trees setting others) (weighed_nodes (node kind.Case label (more constant none))) (weighed_row others) (switch_waits others)
+    switch_waits (more (node kind.Default label none) others) = waits_past (arms_waiting (arm_trees setting others)) 1 (weighed_row others) (switch_waits others)
+    switch_waits (more (node k label parts) others) =
         waits_row (stmt_waiting (stmt_tree setting (node k label parts))) (arms_waiting (arm_trees setting others)) (weighed_nodes (node k label parts)) (weighed_row others)
-        (statement_waits (node k label parts) h.0) (switch_waits others h.1)
+        (statement_waits (node k label parts)) (switch_waits others)
 
-    loop_waits : (first : Option Tree) (test step : Bool) (row : TypedRow) → RowWaits setting row → stmt_waiting (loop_tree setting first test step row) ≤ waiting_if first + weighed_row row
-    loop_waits first true true (more test (more step (more body none))) h =
+    loop_waits : (first : Option Tree) (test step : Bool) (row : TypedRow) → stmt_waiting (loop_tree setting first test step row) ≤ waiting_if first + weighed_row row
+    loop_waits first true true (more test (more step (more body none))) =
         three_wait (waiting_if first) (waiting (value_tree setting test)) (waiting (value_tree setting step)) (stmt_waiting (stmt_tree setting body)) (weighed_nodes test) (weighed_nodes step) (weighed_nodes body)
-        (value_waits setting test h.0) (value_waits setting step h.1.0) (statement_waits body h.1.1.0)
-    loop_waits first true false (more test (more body none)) h =
-        test_waits (waiting_if first) (waiting (value_tree setting test)) (stmt_waiting (stmt_tree setting body)) (weighed_nodes test) (weighed_nodes body) (value_waits setting test h.0) (statement_waits body h.1.0)
-    loop_waits first false true (more step (more body none)) h =
-        step_waits (waiting_if first) (waiting (value_tree setting step)) (stmt_waiting (stmt_tree setting body)) (weighed_nodes step) (weighed_nodes body) (value_waits setting step h.0) (statement_waits body h.1.0)
-    loop_waits first false false (more body none) h =
-        body_waits (waiting_if first) (stmt_waiting (stmt_tree setting body)) (weighed_nodes body) (statement_waits body h.0)
-    loop_waits first test step row h = first_waits first (weighed_row row)
+        (value_waits setting test) (value_waits setting step) (statement_waits body)
+    loop_waits first true false (more test (more body none)) =
+        test_waits (waiting_if first) (waiting (value_tree setting test)) (stmt_waiting (stmt_tree setting body)) (weighed_nodes test) (weighed_nodes body) (value_waits setting test) (statement_waits body)
+    loop_waits first false true (more step (more body none)) =
+        step_waits (waiting_if first) (waiting (value_tree setting step)) (stmt_waiting (stmt_tree setting body)) (weighed_nodes step) (weighed_nodes body) (value_waits setting step) (statement_waits body)
+    loop_waits first false false (more body none) =
+        body_waits (waiting_if first) (stmt_waiting (stmt_tree setting body)) (weighed_nodes body) (statement_waits body)
+    loop_waits first test step row = first_waits first (weighed_row row)
 
 -- NO GOTO
 

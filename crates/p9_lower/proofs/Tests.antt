@@ -1,6 +1,6 @@
 -- The test of sources is sound, and small programs pass it.
-use Rattle.std.proofs.Common.{◌≡◌, ℕ, ◌==◌, ◌&&◌, Bool, true, false, not, List, [], ◌∷◌, ◌++◌, slice_get, Option, Some, None, refl, ap, ◌∙◌, subst}
-use Rattle.std.proofs.lemmas.Bool.{eqb-true, not-true}
+use Rattle.std.proofs.Common.{◌≡◌, ℕ, ◌==◌, ◌&&◌, Bool, true, false, List, [], ◌∷◌, ◌++◌, slice_get, Option, Some, None, refl, ap, ◌∙◌, subst}
+use Rattle.std.proofs.lemmas.Bool.{eqb-true}
 use Rattle.p9_lang.specs.declared.tree.Kind.{Kind}
 use Rattle.p9_lang.specs.declared.tree.Kind.TheVariants as kind
 use Rattle.p9_lang.specs.Types.{TypeTree, Void, Char, UChar, Short, UShort, Int, UInt, Long, ULong, Pointer, Array, Function, Tagged, TypeRow, Meant, Nothing, Outer, Static, Auto, EnumValue, TypeName}
@@ -11,18 +11,16 @@ use Rattle.p9_lang.specs.Modules.{Label, Typed, TypedRow, Source}
 use Rattle.p9_lang.specs.Symbols.{Symbol, symbols}
 use Rattle.p9_cmean.specs.ConstantLaws.{constants_are_typed}
 use Rattle.p9_cmean.specs.Declarations.{Automatic, declared_by, declared_in, Definition, definition_of}
-use Rattle.p9_cmean.specs.Expressions.{operand_type, parameters_of}
 use Rattle.p9_cmean.specs.Union.{parameter_types, types_within}
 use Rattle.p9_cmean.proofs.TypedConstants.{tested_constants_are_typed}
 use Rattle.p9_tree.specs.Means.{data_symbols, code_items}
 use Rattle.p9_lower.specs.Names.{Setting, outer_symbol, static_symbol}
-use Rattle.p9_lower.specs.Operators.{conversion_to}
 use Rattle.p9_lower.specs.Modules.{setting_of}
 use Rattle.p9_lower.specs.Keeping.{is_function_at}
-use Rattle.p9_lower.specs.Premises.{is_inner, NameIsKnown, NodeIsSound, NodesAreSound, RowIsSound, ExpressionIsSound, AutomaticsAreKnown, InitialIsSound, InitialisersAreSound, StatementIsSound, StatementsAreSound, LoopIsSound, ArgumentsWait, NodeWaits, NodesWait, RowWaits, function_setting, ItemIsSound, ItemsAreSound, firsts_are_sound}
-use Rattle.p9_lower.specs.Tests.{answers, name_is_known, node_is_sound, nodes_are_sound, row_is_sound, expression_is_sound, has_type, automatics_are_known, initial_is_sound, initialisers_are_sound, statement_is_sound, statements_are_sound, loop_is_sound, arguments_wait, node_waits, nodes_wait, row_waits, item_is_sound, items_are_sound, TestedSourcesAreSound}
+use Rattle.p9_lower.specs.Premises.{NameIsKnown, NodeIsSound, NodesAreSound, RowIsSound, ExpressionIsSound, AutomaticsAreKnown, InitialIsSound, InitialisersAreSound, StatementIsSound, StatementsAreSound, LoopIsSound, function_setting, ItemIsSound, ItemsAreSound, firsts_are_sound}
+use Rattle.p9_lower.specs.Tests.{answers, name_is_known, node_is_sound, nodes_are_sound, row_is_sound, expression_is_sound, has_type, automatics_are_known, initial_is_sound, initialisers_are_sound, statement_is_sound, statements_are_sound, loop_is_sound, item_is_sound, items_are_sound, TestedSourcesAreSound}
 use Rattle.p9_lower.specs.SoundExamples.{are_sound, ExamplesAreSound}
-use Rattle.p9_lower.proofs.Quiet.{left_true, right_true}
+use Rattle.p9_lower.proofs.Truths.{left_true, right_true}
 
 -- NAMES
 
@@ -46,7 +44,6 @@ name_known symbols type (TypeName other) e = tt
 node_sound : (setting : Setting) (k : Kind) (label : Label) (parts : TypedRow) → node_is_sound setting k label parts ≡ true → NodeIsSound setting k label parts
 node_sound setting (kind.Name x) label parts e = name_known setting.symbols label.type label.means e
 node_sound setting (kind.Text texts) label parts e = name_known setting.symbols label.type label.means e
-node_sound setting kind.Index label (more array (more index none)) e = e
 node_sound setting (kind.Binary op) label (more left (more right none)) e = e
 node_sound setting (kind.Assign (Some op)) label (more left (more right none)) e = e
 node_sound setting k label parts e = tt
@@ -192,44 +189,11 @@ mutual
   loop_sound setting types false false (more body none) h = statement_sound setting types body h
   loop_sound setting types test step row h = tt
 
--- WAITING
-
-arguments_waiting : (setting : Setting) (parameters : TypeRow) (row : TypedRow) → arguments_wait setting parameters row ≡ true → ArgumentsWait setting parameters row
-arguments_waiting setting types.none row h = tt
-arguments_waiting setting (types.more p ps) none h = tt
-arguments_waiting setting (types.more p ps) (more first others) h = (
-  not-true (is_inner (conversion_to setting.tags first p)) (left_true (not (is_inner (conversion_to setting.tags first p))) (arguments_wait setting ps others) h),
-  arguments_waiting setting ps others (right_true (not (is_inner (conversion_to setting.tags first p))) (arguments_wait setting ps others) h),
-)
-
-node_waiting : (setting : Setting) (k : Kind) (parts : TypedRow) → node_waits setting k parts ≡ true → NodeWaits setting k parts
-node_waiting setting kind.Call (more function arguments) h = arguments_waiting setting (parameters_of (operand_type function)) arguments h
-node_waiting setting k parts h = tt
-
-mutual
-  nodes_waiting : (setting : Setting) (e : Typed) → nodes_wait setting e ≡ true → NodesWait setting e
-  nodes_waiting setting (node k label parts) h = (
-    node_waiting setting k parts (left_true (node_waits setting k parts) (row_waits setting parts) h),
-    row_waiting setting parts (right_true (node_waits setting k parts) (row_waits setting parts) h),
-  )
-
-  row_waiting : (setting : Setting) (row : TypedRow) → row_waits setting row ≡ true → RowWaits setting row
-  row_waiting setting none h = tt
-  row_waiting setting (more first others) h = (
-    nodes_waiting setting first (left_true (nodes_wait setting first) (row_waits setting others) h),
-    row_waiting setting others (right_true (nodes_wait setting first) (row_waits setting others) h),
-  )
-
 -- MODULES
 
 item_sound : (m : Source) (o : Option Definition) → item_is_sound m o ≡ true → ItemIsSound m o
 item_sound m None h = cc
-item_sound m (Some d) h =
-    let types = parameter_types d.name.type ++ types_within d.block in
-    record {
-      block = statement_sound (function_setting m d) types d.block (left_true (statement_is_sound (function_setting m d) types d.block) (nodes_wait (function_setting m d) d.block) h);
-      waits = nodes_waiting (function_setting m d) d.block (right_true (statement_is_sound (function_setting m d) types d.block) (nodes_wait (function_setting m d) d.block) h);
-    }
+item_sound m (Some d) h = statement_sound (function_setting m d) (parameter_types d.name.type ++ types_within d.block) d.block h
 
 items_sound : (m : Source) (items : List Typed) → items_are_sound m items ≡ true → ItemsAreSound m items
 items_sound m [] h = tt
@@ -246,4 +210,4 @@ tested_sources_are_sound m h = record {
 
 pub examples_are_sound : ExamplesAreSound
 unfolding are_sound
-examples_are_sound = (refl, (refl, (refl, (refl, (refl, (refl, (refl, (refl, (refl, (refl, (refl, (refl, (refl, (refl, (refl, (refl, (refl, (refl, (refl, (refl, (refl, (refl, (refl, (refl, (refl, (refl, (refl, (refl, (refl, (refl, (refl, (refl, (refl, (refl, (refl, (refl, (refl, (refl, (refl, (refl, (refl, (refl, (refl, (refl, tt))))))))))))))))))))))))))))))))))))))))))))
+examples_are_sound = (refl, (refl, (refl, (refl, (refl, (refl, (refl, (refl, (refl, (refl, (refl, (refl, (refl, (refl, (refl, (refl, (refl, (refl, (refl, (refl, (refl, (refl, (refl, (refl, (refl, (refl, (refl, (refl, (refl, (refl, (refl, (refl, (refl, (refl, (refl, (refl, (refl, (refl, (refl, (refl, (refl, (refl, (refl, (refl, (refl, tt)))))))))))))))))))))))))))))))))))))))))))))

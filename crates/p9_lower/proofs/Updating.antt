@@ -33,7 +33,7 @@ use Rattle.p9_lower.specs.Operators.{width_of, word_operator, forward_tree, scal
 use Rattle.p9_lower.specs.Premises.{works_on_words, is_additive, update_is_sound, is_plain}
 use Rattle.p9_lower.specs.Keeping.{Stands}
 use Rattle.p9_lower.proofs.Plays.{stands_refl, bind_done, along}
-use Rattle.p9_lower.proofs.Quiet.{left_true, right_true}
+use Rattle.p9_lower.proofs.Truths.{left_true, right_true}
 use Rattle.p9_lower.proofs.Widths.{narrow_width}
 use Rattle.p9_lower.proofs.Moving.{moved_value, Moves, elements_move, word_added, word_subtracted, one_element_moved, negated_moved, back_is_negated}
 use Rattle.p9_lower.proofs.Operating.{some_ok, of_integer_type, integers_are}

@@ -11,7 +11,7 @@ use Rattle.p9_lang.specs.Rules.{Rule, BadOperands, NotLvalue, breaks_if, unless_
 use Rattle.p9_lang.specs.Expressions.{Verdict, value, asks, as_value, value_type, is_writable, is_complete_pointer, are_integers, conversion_broken, conversion_rules, difference_type, binary_type, result_rules}
 use Rattle.p9_lower.specs.Premises.{works_on_words, is_additive, update_is_sound}
 use Rattle.p9_lower.specs.Verdicts.{is_assigning, UpdatesAreSound, DifferencesAreComplete}
-use Rattle.p9_lower.proofs.Quiet.{left_true, right_true}
+use Rattle.p9_lower.proofs.Truths.{left_true, right_true}
 
 -- RULES that no node breaks
 

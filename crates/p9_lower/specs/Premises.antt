@@ -2,12 +2,10 @@
 use Rattle.std.specs.Prelude.{◌≡◌, ℕ, ◌+◌, ◌==◌, ◌&&◌, ◌||◌, length, Result, Ok, Err, Bool, true, false, not, nat_lt, nat_le, List, [], ◌∷◌, ◌++◌, slice_get, Option, Some, None}
 use Rattle.p9_lang.specs.declared.tree.CBinary.{CBinary}
 use Rattle.p9_lang.specs.declared.tree.CBinary.TheVariants as operator
-use Rattle.p9_lang.specs.declared.tree.CUnary.TheVariants as unary
 use Rattle.p9_lang.specs.declared.tree.Kind.{Kind}
 use Rattle.p9_lang.specs.declared.tree.Kind.TheVariants as kind
 use Rattle.p9_lang.specs.Trees.{node, none, more}
-use Rattle.p9_lang.specs.Types as types
-use Rattle.p9_lang.specs.Types.{TypeTree, TypeRow, Pointer, Tags, Meant, Nothing, Outer, Static, Auto, EnumValue, TypeName}
+use Rattle.p9_lang.specs.Types.{TypeTree, Pointer, Tags, Meant, Nothing, Outer, Static, Auto, EnumValue, TypeName}
 use Rattle.p9_lang.specs.Layout.{size_of, size_limit}
 use Rattle.p9_lang.specs.Conversions.{is_integer, is_pointer, is_function, Conversion, Same, Integer, Null, Inner, Ambiguous, No}
 use Rattle.p9_lang.specs.Constants.{type_at}
@@ -17,12 +15,8 @@ use Rattle.p9_lang.specs.Modules.{Label, Typed, TypedRow, Source}
 use Rattle.p9_cmean.specs.ConstantLaws.{ConstantsAreTyped}
 use Rattle.p9_cmean.specs.Declarations.{Automatic, declared_by, declared_in, Definition, definition_of}
 use Rattle.p9_cmean.specs.Union.{parameter_types, types_within}
-use Rattle.p9_cmean.specs.Expressions.{operand_type, parameters_of}
-use Rattle.p9_tree.specs.Trees.{Tree}
-use Rattle.p9_tree.specs.Charges.{pure}
+use Rattle.p9_cmean.specs.Expressions.{operand_type}
 use Rattle.p9_lower.specs.Names.{Setting, outer_symbol, static_symbol}
-use Rattle.p9_lower.specs.Operators.{conversion_to}
-use Rattle.p9_lower.specs.Expressions.{value_tree}
 use Rattle.p9_lower.specs.Modules.{setting_of, result_of, base_symbol}
 use Rattle.p9_tree.specs.Means.{DataSymbol, data_symbols, code_items}
 use Rattle.p9_lower.specs.Keeping.{is_function_at}
@@ -39,35 +33,10 @@ works_on_words operator.AndAnd = false
 works_on_words operator.OrOr = false
 works_on_words op = true
 
--- Expressions that are worth a number, if anything: no call can give them no value, or an address.
-abbrev pub is_sure : Typed → Bool
-is_sure (node (kind.Number n unsigned long) label none) = true
-is_sure (node (kind.Character n) label none) = true
-is_sure (node (kind.Name x) label none) = is_integer label.type
-is_sure (node kind.Parens label (more e none)) = is_sure e
-is_sure (node (kind.Unary unary.Deref) label (more e none)) = is_integer label.type
-is_sure (node (kind.Unary unary.Plus) label (more e none)) = true
-is_sure (node (kind.Unary unary.Minus) label (more e none)) = true
-is_sure (node (kind.Unary unary.Complement) label (more e none)) = true
-is_sure (node (kind.Unary unary.Not) label (more e none)) = true
-is_sure (node kind.SizeofValue label (more e none)) = true
-is_sure (node kind.SizeofType label (more type none)) = true
-is_sure (node kind.Cast label (more type (more e none))) = is_integer label.type
-is_sure (node kind.Index label (more array (more index none))) = is_integer label.type
-is_sure (node (kind.Dot arrow name) label (more e none)) = is_integer label.type
-is_sure (node (kind.Binary operator.AndAnd) label (more left (more right none))) = true
-is_sure (node (kind.Binary operator.OrOr) label (more left (more right none))) = true
-is_sure (node (kind.Binary op) label (more left (more right none))) = is_integer (operand_type left) && is_integer (operand_type right)
-is_sure (node kind.Comma label (more left (more right none))) = is_sure right
-is_sure (node k label parts) = false
-
--- Pointers differ by whole elements of a complete type. Where an integer is added to a pointer that
--- stands behind it, and the integer isn't sure, the pointer has no effects, given the tree of the right
--- operand.
-abbrev pub operands_are_sound : Tags → CBinary → (left right : TypeTree) → (sure : Bool) → Tree → Bool
-operands_are_sound tags operator.Sub (Pointer target) (Pointer other) sure b = is_size (size_of tags target)
-operands_are_sound tags operator.Add left (Pointer target) sure b = is_pointer left || (sure || pure b)
-operands_are_sound tags op left right sure b = true
+-- Pointers differ by whole elements of a complete type.
+abbrev pub operands_are_sound : Tags → CBinary → (left right : TypeTree) → Bool
+operands_are_sound tags operator.Sub (Pointer target) (Pointer other) = is_size (size_of tags target)
+operands_are_sound tags op left right = true
 
 -- `op=` changes an integer by an integer, and a pointer by a number of elements
 abbrev pub is_additive : CBinary → Bool
@@ -104,10 +73,8 @@ NameIsKnown symbols type (TypeName other) = Unit {0}
 abbrev pub NodeIsSound : Setting → Kind → Label → TypedRow → Type 0
 NodeIsSound setting (kind.Name x) label parts = NameIsKnown setting.symbols label.type label.means
 NodeIsSound setting (kind.Text texts) label parts = NameIsKnown setting.symbols label.type label.means
-NodeIsSound setting kind.Index label (more array (more index none)) =
-    operands_are_sound setting.tags operator.Add (operand_type array) (operand_type index) (is_sure array) (value_tree setting index) ≡ true
 NodeIsSound setting (kind.Binary op) label (more left (more right none)) =
-    operands_are_sound setting.tags op (operand_type left) (operand_type right) (is_sure left) (value_tree setting right) ≡ true
+    operands_are_sound setting.tags op (operand_type left) (operand_type right) ≡ true
 NodeIsSound setting (kind.Assign (Some op)) label (more left (more right none)) = update_is_sound op (type_at left) (operand_type right) ≡ true
 NodeIsSound setting k label parts = Unit {0}
 
@@ -171,42 +138,14 @@ abbrev mutual
   LoopIsSound setting types false false (more body none) = StatementIsSound setting types body
   LoopIsSound setting types test step others = Unit {0}
 
--- WAITING: the frame has room for values that wait where no argument is converted to a substructure
-
-abbrev pub is_inner : Conversion → Bool
-is_inner (Inner offset) = true
-is_inner conversion = false
-
-abbrev pub ArgumentsWait : Setting → TypeRow → TypedRow → Type 0
-ArgumentsWait setting types.none arguments = Unit {0}
-ArgumentsWait setting (types.more parameter parameters) none = Unit {0}
-ArgumentsWait setting (types.more parameter parameters) (more first others) =
-    (is_inner (conversion_to setting.tags first parameter) ≡ false) × ArgumentsWait setting parameters others
-
-abbrev pub NodeWaits : Setting → Kind → TypedRow → Type 0
-NodeWaits setting kind.Call (more function arguments) = ArgumentsWait setting (parameters_of (operand_type function)) arguments
-NodeWaits setting k parts = Unit {0}
-
-abbrev mutual
-  pub NodesWait : Setting → Typed → Type 0
-  NodesWait setting (node k label parts) = NodeWaits setting k parts × RowWaits setting parts
-
-  pub RowWaits : Setting → TypedRow → Type 0
-  RowWaits setting none = Unit {0}
-  RowWaits setting (more first others) = NodesWait setting first × RowWaits setting others
-
 -- MODULES: each item of a function has a block, whose statements are sound
 
 abbrev pub function_setting : Source → Definition → Setting
 function_setting m d = record (setting_of m) { result = result_of d.name.type }
 
-pub record FunctionIsSound (m : Source) (d : Definition) : Type 0 where
-  pub block : StatementIsSound (function_setting m d) (parameter_types d.name.type ++ types_within d.block) d.block
-  pub waits : NodesWait (function_setting m d) d.block
-
 abbrev pub ItemIsSound : Source → Option Definition → Type 0
 ItemIsSound m None = ⊥
-ItemIsSound m (Some d) = FunctionIsSound m d
+ItemIsSound m (Some d) = StatementIsSound (function_setting m d) (parameter_types d.name.type ++ types_within d.block) d.block
 
 abbrev pub ItemsAreSound : Source → List Typed → Type 0
 ItemsAreSound m [] = Unit {0}

@@ -5,7 +5,7 @@ use Rattle.std.specs.List.{list_all}
 use Rattle.p9_lang.specs.Layout.{on_some}
 use Rattle.p9_cmean.specs.ExampleRuns.{modules_of}
 use Rattle.p9_cmean.specs.ExamplesOfCalls.{arguments, echo, counts, through_pointers, recursion}
-use Rattle.p9_cmean.specs.ExamplesOfExpressions.{left_first, greatest, signs, narrowing, steps, overlaid, copied, pointers, null_moved}
+use Rattle.p9_cmean.specs.ExamplesOfExpressions.{substructure, left_first, greatest, signs, narrowing, steps, overlaid, copied, pointers, null_moved}
 use Rattle.p9_cmean.specs.ExamplesOfFiles.{commons, first_contents, over_address, texts, declared_only, own_names, shared_nodes}
 use Rattle.p9_cmean.specs.ExamplesOfFlow.{if_and_else, parts_of_for, cases, out_of_loops, turns}
 use Rattle.p9_cmean.specs.ExamplesOfOperators.{constants, bits, short_circuit, places_first, updates, casts, compared, without_values, texts_apart, unevaluated, copies}
@@ -24,7 +24,7 @@ all_pass (files ∷ others) = (are_sound files ≡ Some true) × all_pass others
 abbrev pub sound_examples : List (List (List Syntax))
 sound_examples =
     arguments ∷ echo ∷ counts ∷ through_pointers ∷ recursion
-    ∷ left_first ∷ greatest ∷ signs ∷ narrowing ∷ steps ∷ overlaid ∷ copied ∷ pointers ∷ null_moved
+    ∷ substructure ∷ left_first ∷ greatest ∷ signs ∷ narrowing ∷ steps ∷ overlaid ∷ copied ∷ pointers ∷ null_moved
     ∷ commons ∷ first_contents ∷ over_address ∷ texts ∷ declared_only ∷ own_names ∷ shared_nodes
     ∷ if_and_else ∷ parts_of_for ∷ cases ∷ out_of_loops ∷ turns
     ∷ constants ∷ bits ∷ short_circuit ∷ places_first ∷ updates ∷ casts ∷ compared ∷ without_values ∷ texts_apart ∷ unevaluated ∷ copies

@@ -1,10 +1,8 @@
 -- A test of what the law of typed modules asks.
 use Rattle.std.specs.Prelude.{◌≡◌, ◌&&◌, Bool, true, false, not, List, [], ◌∷◌, ◌++◌, slice_get, Option, Some, None}
-use Rattle.p9_lang.specs.declared.tree.CBinary.TheVariants as operator
 use Rattle.p9_lang.specs.declared.tree.Kind.{Kind}
 use Rattle.p9_lang.specs.declared.tree.Kind.TheVariants as kind
-use Rattle.p9_lang.specs.Types.{TypeTree, TypeRow, Meant, Nothing, Outer, Static, Auto, EnumValue, TypeName}
-use Rattle.p9_lang.specs.Types as types
+use Rattle.p9_lang.specs.Types.{TypeTree, Meant, Nothing, Outer, Static, Auto, EnumValue, TypeName}
 use Rattle.p9_lang.specs.Trees.{node, none, more}
 use Rattle.p9_lang.specs.Conversions.{is_function, same_type}
 use Rattle.p9_lang.specs.Constants.{type_at}
@@ -12,15 +10,13 @@ use Rattle.p9_lang.specs.Modules.{Label, Typed, TypedRow, Source}
 use Rattle.p9_lang.specs.Symbols.{Symbol, symbols}
 use Rattle.p9_cmean.specs.ConstantLaws.{constants_are_typed}
 use Rattle.p9_cmean.specs.Declarations.{Automatic, declared_by, declared_in, Definition, definition_of}
-use Rattle.p9_cmean.specs.Expressions.{operand_type, parameters_of}
+use Rattle.p9_cmean.specs.Expressions.{operand_type}
 use Rattle.p9_cmean.specs.Union.{parameter_types, types_within}
 use Rattle.p9_tree.specs.Means.{data_symbols, code_items}
 use Rattle.p9_lower.specs.Names.{Setting, outer_symbol, static_symbol}
-use Rattle.p9_lower.specs.Operators.{conversion_to}
-use Rattle.p9_lower.specs.Expressions.{value_tree}
 use Rattle.p9_lower.specs.Modules.{setting_of}
 use Rattle.p9_lower.specs.Keeping.{is_function_at}
-use Rattle.p9_lower.specs.Premises.{is_sure, operands_are_sound, update_is_sound, is_inner, function_setting, firsts_are_sound, SourceIsSound}
+use Rattle.p9_lower.specs.Premises.{operands_are_sound, update_is_sound, function_setting, firsts_are_sound, SourceIsSound}
 
 -- EXPRESSIONS
 
@@ -40,10 +36,8 @@ name_is_known symbols type (TypeName other) = true
 abbrev pub node_is_sound : Setting → Kind → Label → TypedRow → Bool
 node_is_sound setting (kind.Name x) label parts = name_is_known setting.symbols label.type label.means
 node_is_sound setting (kind.Text texts) label parts = name_is_known setting.symbols label.type label.means
-node_is_sound setting kind.Index label (more array (more index none)) =
-    operands_are_sound setting.tags operator.Add (operand_type array) (operand_type index) (is_sure array) (value_tree setting index)
 node_is_sound setting (kind.Binary op) label (more left (more right none)) =
-    operands_are_sound setting.tags op (operand_type left) (operand_type right) (is_sure left) (value_tree setting right)
+    operands_are_sound setting.tags op (operand_type left) (operand_type right)
 node_is_sound setting (kind.Assign (Some op)) label (more left (more right none)) = update_is_sound op (type_at left) (operand_type right)
 node_is_sound setting k label parts = true
 
@@ -109,32 +103,11 @@ abbrev mutual
   loop_is_sound setting types false false (more body none) = statement_is_sound setting types body
   loop_is_sound setting types test step others = true
 
--- WAITING
-
-abbrev pub arguments_wait : Setting → TypeRow → TypedRow → Bool
-arguments_wait setting types.none arguments = true
-arguments_wait setting (types.more parameter parameters) none = true
-arguments_wait setting (types.more parameter parameters) (more first others) =
-    not (is_inner (conversion_to setting.tags first parameter)) && arguments_wait setting parameters others
-
-abbrev pub node_waits : Setting → Kind → TypedRow → Bool
-node_waits setting kind.Call (more function arguments) = arguments_wait setting (parameters_of (operand_type function)) arguments
-node_waits setting k parts = true
-
-abbrev mutual
-  pub nodes_wait : Setting → Typed → Bool
-  nodes_wait setting (node k label parts) = node_waits setting k parts && row_waits setting parts
-
-  pub row_waits : Setting → TypedRow → Bool
-  row_waits setting none = true
-  row_waits setting (more first others) = nodes_wait setting first && row_waits setting others
-
 -- MODULES
 
 abbrev pub item_is_sound : Source → Option Definition → Bool
 item_is_sound m None = false
-item_is_sound m (Some d) =
-    statement_is_sound (function_setting m d) (parameter_types d.name.type ++ types_within d.block) d.block && nodes_wait (function_setting m d) d.block
+item_is_sound m (Some d) = statement_is_sound (function_setting m d) (parameter_types d.name.type ++ types_within d.block) d.block
 
 abbrev pub items_are_sound : Source → List Typed → Bool
 items_are_sound m [] = true

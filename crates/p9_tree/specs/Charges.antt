@@ -118,7 +118,8 @@ abbrev mutual
   arms_charge (Arm stmt others) = stmt_charge stmt + arms_charge others
 
 -- WORDS OF THE FRAME: values that may have to wait in it while another part is computed, and the words
--- that callers keep for arguments
+-- that callers keep for arguments. A constant at the right of an operator is part of the instruction, and
+-- nothing waits for it.
 
 abbrev mutual
   pub waiting : Tree → ℕ
@@ -130,6 +131,7 @@ abbrev mutual
   waiting (Update w op to right) = suc (waiting to + waiting right)
   waiting (Copy bytes to from) = suc (waiting to + waiting from)
   waiting (Un op operand) = waiting operand
+  waiting (Bin op left (Const word)) = waiting left
   waiting (Bin op left right) = suc (waiting left + waiting right)
   waiting (Conv w operand) = waiting operand
   waiting (Choose test first second) = waiting test + (waiting first + waiting second)
