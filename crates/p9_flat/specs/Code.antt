@@ -9,7 +9,7 @@ use Rattle.p9_lang.specs.Types as types
 use Rattle.p9_lang.specs.Trees.{node, none, more, count_of}
 use Rattle.p9_lang.specs.Layout.{size_of, alignment_of}
 use Rattle.p9_lang.specs.Modules.{Label, Typed, TypedRow}
-use Rattle.p9_lang.specs.Conversions.{is_integer, is_structure, Conversion, Same, Null, Inner, No}
+use Rattle.p9_lang.specs.Conversions.{is_integer, is_pointer, is_structure, Conversion, Same, Null, Inner, No}
 use Rattle.p9_lang.specs.Conversions as conversions
 use Rattle.p9_lang.specs.Constants.{type_at}
 use Rattle.p9_cmean.specs.Cells.{FunctionName, Pointer, Into, ToFunction}
@@ -131,8 +131,15 @@ abbrev pub operation_code : Option Operation → (here : ℕ) → List Op
 operation_code None here = op.Swap ∷ op.Use ∷ op.Swap ∷ lacks_of here
 operation_code (Some done) here = op.Operate done here ∷ []
 
+-- the left operand is used before the right one is evaluated
+abbrev pub used_left : TypeTree → (here : ℕ) → List Op
+used_left type here = if is_pointer type then op.Use ∷ [] else op.Narrow scalar.Word here ∷ []
+
+abbrev pub left_code : List Op → TypeTree → (here : ℕ) → List Op
+left_code first type here = first ++ used_left type here
+
 abbrev pub operate_code : Surroundings → CBinary → (left right : TypeTree) → (here : ℕ) → List Op
-operate_code around op left right here = operation_code (operation_of op around.tags left right) here
+operate_code around symbol left right here = operation_code (operation_of symbol around.tags left right) here
 
 abbrev pub inner_code : Option ℕ → (here : ℕ) → List Op
 inner_code None here = lacks_of here
@@ -144,8 +151,8 @@ member_code around arrow e name here =
 
 -- above the address is the right operand; below it is put what is read
 abbrev pub update_code : Surroundings → (read here : ℕ) → CBinary → (type right : TypeTree) → List Op
-update_code around read here op type right =
-    read_code type read ++ (op.Swap ∷ (operate_code around op type right here
+update_code around read here symbol type right =
+    read_code type read ++ (op.Swap ∷ (operate_code around symbol type right here
     ++ assign_scalar_code (result_conversion around type right) type here))
 
 -- TESTS
@@ -200,7 +207,7 @@ abbrev mutual
   address_code setting pc (node kind.Parens label (more e none)) = address_code setting pc e
   address_code setting pc (node (kind.Unary unary.Deref) label (more e none)) = value_code setting pc e ++ op.Use ∷ []
   address_code setting pc (node kind.Index label (more array (more index none))) =
-      behind pc (value_code setting pc array) (λ m. value_code setting m index
+      behind pc (left_code (value_code setting pc array) (operand_type array) label.number) (λ m. value_code setting m index
       ++ operate_code setting.around operator.Add (operand_type array) (operand_type index) label.number)
   address_code setting pc (node (kind.Dot arrow name) label (more e none)) =
       value_code setting pc e ++ member_code setting.around arrow e name label.number
@@ -229,7 +236,7 @@ abbrev mutual
   value_code setting pc (node kind.Cast label (more type (more e none))) =
       value_code setting pc e ++ cast_code (content_of label.type) label.type label.number
   value_code setting pc (node kind.Index label (more array (more index none))) =
-      behind pc (value_code setting pc array) (λ m. value_code setting m index
+      behind pc (left_code (value_code setting pc array) (operand_type array) label.number) (λ m. value_code setting m index
       ++ (operate_code setting.around operator.Add (operand_type array) (operand_type index) label.number
       ++ read_code label.type label.number))
   value_code setting pc (node (kind.Dot arrow name) label (more e none)) =
@@ -242,9 +249,9 @@ abbrev mutual
       behind pc (value_code setting pc left) (λ m. choice_code (tests (operand_type left)) label.number m
       (λ n. op.Number 1 ∷ [])
       (λ n. value_code setting n right ++ truth_code (tests (operand_type right)) label.number))
-  value_code setting pc (node (kind.Binary op) label (more left (more right none))) =
-      behind pc (value_code setting pc left) (λ m. value_code setting m right
-      ++ operate_code setting.around op (operand_type left) (operand_type right) label.number)
+  value_code setting pc (node (kind.Binary symbol) label (more left (more right none))) =
+      behind pc (left_code (value_code setting pc left) (operand_type left) label.number) (λ m. value_code setting m right
+      ++ operate_code setting.around symbol (operand_type left) (operand_type right) label.number)
   value_code setting pc (node kind.Choose label (more test (more first (more second none)))) =
       behind pc (value_code setting pc test) (λ m. choice_code (tests (operand_type test)) label.number m
       (λ n. value_code setting n first ++ chosen_code label.type)
@@ -252,9 +259,9 @@ abbrev mutual
   value_code setting pc (node (kind.Assign None) label (more left (more right none))) =
       behind pc (address_code setting pc left) (λ m. value_code setting m right
       ++ assign_code setting.around label.number right (type_at left))
-  value_code setting pc (node (kind.Assign (Some op)) label (more left (more right none))) =
+  value_code setting pc (node (kind.Assign (Some symbol)) label (more left (more right none))) =
       behind pc (address_code setting pc left) (λ m. value_code setting m right
-      ++ (op.Over ∷ update_code setting.around (lvalue_node left) label.number op (type_at left) (operand_type right)))
+      ++ (op.Over ∷ update_code setting.around (lvalue_node left) label.number symbol (type_at left) (operand_type right)))
   value_code setting pc (node (kind.Pre minus) label (more e none)) =
       address_code setting pc e ++ (op.Number 1 ∷ op.Over
       ∷ update_code setting.around (lvalue_node e) label.number (step_operator minus) (type_at e) Int)

@@ -1,7 +1,7 @@
 -- The code of statements and functions.
-use Rattle.std.specs.Prelude.{◌≡◌, ℕ, zero, suc, ◌+◌, Bool, true, false, if◌then◌else◌, List, [], ◌∷◌, ◌++◌, length, map, Option, Some, None, slice_get}
+use Rattle.std.specs.Prelude.{◌≡◌, ℕ, suc, ◌+◌, Bool, true, false, if◌then◌else◌, List, [], ◌∷◌, ◌++◌, length, map, Option, Some, None, slice_get}
 use Rattle.p9_lang.specs.declared.tree.Kind.TheVariants as kind
-use Rattle.p9_lang.specs.Types.{TypeTree, Tags}
+use Rattle.p9_lang.specs.Types.{Tags}
 use Rattle.p9_lang.specs.Trees.{node, none, more}
 use Rattle.p9_lang.specs.Layout.{size_of}
 use Rattle.p9_lang.specs.Constants.{Constant, NotConstant, Undefined, constant_of}
@@ -9,13 +9,13 @@ use Rattle.p9_lang.specs.Constants as constants
 use Rattle.p9_lang.specs.Modules.{Typed, TypedRow}
 use Rattle.p9_cmean.specs.Automatics.{Declared}
 use Rattle.p9_cmean.specs.Declarations.{Automatic, declared_by, declared_in, declaration_of}
-use Rattle.p9_cmean.specs.Expressions.{Surroundings, operand_type, conversion_of}
+use Rattle.p9_cmean.specs.Expressions.{operand_type, conversion_of}
 use Rattle.p9_cmean.specs.Statements.{is_default}
 use Rattle.p9_flat.specs.declared.op.Op.{Op}
 use Rattle.p9_flat.specs.declared.op.Op.TheVariants as op
 use Rattle.p9_flat.specs.declared.op.Scalar.TheVariants as scalar
 use Rattle.p9_flat.specs.Resolved.{tests}
-use Rattle.p9_flat.specs.Code.{Numbers, Slot, Setting, behind, lacks, lacks_of, meant_code, convert_code, assign_code, choice_code, value_code}
+use Rattle.p9_flat.specs.Code.{Slot, Setting, behind, lacks, lacks_of, meant_code, convert_code, assign_code, choice_code, value_code}
 
 -- where a statement goes on that does not end by going on; at `returned` a value is at the top
 pub record Ends : Type 0 where

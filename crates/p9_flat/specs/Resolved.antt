@@ -1,5 +1,5 @@
 -- What operations do whose operands' types are resolved: accesses, operators and tests, by the meaning's own.
-use Rattle.std.specs.Prelude.{ℕ, Bool, true, false, if◌then◌else◌, nat_lt, nat_le, List, [], ◌∷◌, Option, Some, None, Result, Ok, Err}
+use Rattle.std.specs.Prelude.{ℕ, Bool, true, false, if◌then◌else◌, nat_lt, nat_le, List, Option, Some, None, Result, Ok}
 use Rattle.p9_lang.specs.declared.tree.CBinary.{CBinary}
 use Rattle.p9_lang.specs.declared.tree.CBinary.TheVariants as operator
 use Rattle.p9_lang.specs.Types.{TypeTree, Void, Char, UChar, Short, UShort, Int, UInt, Long, ULong, Pointer, Array, Function, Tagged, Tags}
@@ -9,7 +9,7 @@ use Rattle.p9_lang.specs.Constants.{narrowed, word_operation, works_unsigned}
 use Rattle.p9_cmean.specs.declared.Cause.{Cause}
 use Rattle.p9_cmean.specs.declared.Place.{Place}
 use Rattle.p9_cmean.specs.Cells.{Cell, Object, Value, Word, State}
-use Rattle.p9_cmean.specs.Plays.{Play, Done, bind}
+use Rattle.p9_cmean.specs.Plays.{Play, Done}
 use Rattle.p9_cmean.specs.Places.{used, or_wrong, or_no_meaning, done_at}
 use Rattle.p9_cmean.specs.Access.{and_go, integer_in, integer_from, pointer_from, loaded, stored}
 use Rattle.p9_cmean.specs.Operators.{word_or_cause, moved_elements, of_pointers, within_one, elements_between, compared, equality_of, inequality_of, holds}

@@ -1,5 +1,5 @@
 -- What one operation does where a call stands, and when code plays a play.
-use Rattle.std.specs.Prelude.{◌≡◌, ◌⊎◌, ℕ, zero, suc, ◌+◌, ◌==◌, Bool, true, false, not, if◌then◌else◌, List, [], ◌∷◌, ◌++◌, length, take, drop, reverse, replicate, Option, Some, None, Result, Ok, Err, slice_get, slice_set}
+use Rattle.std.specs.Prelude.{◌≡◌, ◌⊎◌, ℕ, zero, suc, ◌==◌, Bool, true, false, not, if◌then◌else◌, List, [], ◌∷◌, ◌++◌, length, take, drop, reverse, replicate, Option, Some, None, Result, Ok, Err, slice_get, slice_set}
 use Rattle.p9_base.specs.Words.{word_negation, word_complement}
 use Rattle.p9_lang.specs.Constants.{truth}
 use Rattle.p9_cmean.specs.declared.Cause.{Cause}
@@ -7,7 +7,7 @@ use Rattle.p9_cmean.specs.declared.Cause.TheVariants as cause
 use Rattle.p9_cmean.specs.declared.Place.{Place}
 use Rattle.p9_cmean.specs.Cells.{FunctionName, Pointer, Into, ToFunction, Cell, Unset, Object, Value, Word, Address, Missing, State}
 use Rattle.p9_cmean.specs.Plays.{Call, Play, Done, Wrong, NoMeaning, Exit, Cut, Turn, Ask, Moved, bind}
-use Rattle.p9_cmean.specs.Places.{used, or_wrong, done_at}
+use Rattle.p9_cmean.specs.Places.{used, done_at}
 use Rattle.p9_cmean.specs.Access.{and_go, pointer_in, null, usable, moved_inside, read_whole, written_whole, dead_object}
 use Rattle.p9_cmean.specs.Automatics.{live_object, with_objects}
 use Rattle.p9_cmean.specs.Operators.{of_integer}
