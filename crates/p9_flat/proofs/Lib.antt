@@ -1,0 +1,4 @@
+pub mod Playing
+pub mod Runs
+pub mod Resolving
+pub mod Accesses

@@ -2,3 +2,4 @@ pub mod Resolved
 pub mod Step
 pub mod Code
 pub mod Flat
+pub mod Laws

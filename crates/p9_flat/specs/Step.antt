@@ -114,16 +114,18 @@ pushed_automatic (Some object) f s = Next (pushed (Address (Into object 0)) f) s
 
 -- COPIES AND CALLS
 
+abbrev pub copied_to : (size : ℕ) → Place → Result (List Object) Cause → (to : Value) → Frame → State → Step
+copied_to size place (Ok objects) to f s = Moves size (pushed to f) (record s { objects = objects })
+copied_to size place (Err why) to f s = Fails why place s
+
+abbrev pub copied_from : (size alignment : ℕ) → (read place : Place) → Result (List Cell) Cause → (to from : Value) → Frame → State → Step
+copied_from size alignment read place (Ok cells) to from f s =
+    copied_to size place (written_whole size alignment s.objects to from cells) to f s
+copied_from size alignment read place (Err why) to from f s = Fails why read s
+
 abbrev pub copied : (size alignment : ℕ) → (read place : Place) → (to from : Value) → Frame → State → Step
 copied size alignment read place to from f s =
-    by (read_whole size alignment s.objects from)
-  where
-    with_result : Result (List Object) Cause → Step
-    with_result (Ok objects) = Moves size (pushed to f) (record s { objects = objects })
-    with_result (Err why) = Fails why place s
-    by : Result (List Cell) Cause → Step
-    by (Ok cells) = with_result (written_whole size alignment s.objects to from cells)
-    by (Err why) = Fails why read s
+    copied_from size alignment read place (read_whole size alignment s.objects from) to from f s
 
 abbrev pub function_of : Names → (type : ℕ) → List Object → Option Pointer → Result FunctionName Cause
 function_of names type objects None = Err cause.Null
