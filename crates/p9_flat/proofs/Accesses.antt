@@ -1,5 +1,5 @@
 -- The small pieces of code of an expression run what the meaning's operations do.
-use Rattle.std.proofs.Common.{◌≡◌, ℕ, zero, suc, ◌+◌, ◌==◌, Bool, true, false, not, if◌then◌else◌, List, [], ◌∷◌, ◌++◌, length, Option, Some, None, option_map, Result, Ok, Err, slice_get, refl, sym, ap, subst, ◌∙◌, arith, length-append}
+use Rattle.std.proofs.Common.{◌≡◌, ℕ, suc, ◌+◌, Bool, true, false, not, if◌then◌else◌, List, [], ◌∷◌, length, Option, Some, None, Result, Ok, Err, slice_get, refl, sym, ap, subst, ◌∙◌, arith, length-append}
 use Rattle.p9_lang.specs.declared.tree.CBinary.{CBinary}
 use Rattle.p9_lang.specs.Types.{TypeTree, Void, Char, UChar, Short, UShort, Int, UInt, Long, ULong, Pointer, Array, Function, Tagged}
 use Rattle.p9_lang.specs.Layout.{size_of, alignment_of}
@@ -9,24 +9,23 @@ use Rattle.p9_lang.specs.Conversions as conversions
 use Rattle.p9_cmean.specs.declared.Cause.{Cause}
 use Rattle.p9_cmean.specs.declared.Place.{Place}
 use Rattle.p9_cmean.specs.Cells.{Cell, Object, Value, Word, Address, Missing, State}
-use Rattle.p9_cmean.specs.Plays.{Play, Done, Wrong, NoMeaning, Moved, bind}
+use Rattle.p9_cmean.specs.Plays.{Play, Done, NoMeaning, Moved, bind}
 use Rattle.p9_cmean.specs.Places.{used, or_wrong, or_no_meaning, done_at}
 use Rattle.p9_cmean.specs.Access.{null, loaded, stored, moved_inside, read_whole, written_whole}
-use Rattle.p9_cmean.specs.Operators.{holds}
+use Rattle.p9_cmean.specs.Operators.{holds, of_integer}
 use Rattle.p9_cmean.specs.Operators as operators
 use Rattle.p9_cmean.specs.Contents.{content_of}
-use Rattle.p9_cmean.specs.Expressions.{Surroundings, read_at, store_content, narrow, by_conversion, convert_at, assign_scalar, assign_structure, operate, test_at, promoted, cast_to, chosen, answered_as}
+use Rattle.p9_cmean.specs.Expressions.{Surroundings, read_at, store_content, narrow, convert_at, assign_scalar, assign_structure, operate, test_at, promoted, cast_to, chosen, answered_as}
 use Rattle.p9_cmean.proofs.Plays.{bind_assoc}
 use Rattle.p9_flat.specs.declared.op.Op.{Op}
 use Rattle.p9_flat.specs.declared.op.Op.TheVariants as op
 use Rattle.p9_flat.specs.declared.op.Scalar.{Scalar}
 use Rattle.p9_flat.specs.declared.op.Scalar.TheVariants as scalar
 use Rattle.p9_flat.specs.declared.op.Operation.{Operation}
-use Rattle.p9_flat.specs.Flat.{HasAt}
 use Rattle.p9_flat.specs.Resolved.{scalar_of, width, from_cells, tested_type, load, store, narrow_to, operate_on, operated, operation_of, test, tests}
-use Rattle.p9_flat.specs.Code.{lacks, lacks_of, read_code, store_code, convert_code, assign_scalar_code, cast_code, operation_code, used_left, inner_code, truth_code, not_code, pieces, choice_code, chosen_code, answer_code}
-use Rattle.p9_flat.specs.Step.{Names, Own, Frame, frame, Step, Next, Moves, Fails, gone_to, pushed, stepped, branched, copied_to, copied_from, step, Plays}
-use Rattle.p9_flat.proofs.Playing.{has_first, has_second, IsSimple, simple_used, simple_wrong, simple_done, simple_option, simple_bind, by_next, by_moves, by_fails, by_branch}
+use Rattle.p9_flat.specs.Code.{lacks_of, read_code, store_code, convert_code, assign_scalar_code, cast_code, operation_code, used_left, inner_code, truth_code, not_code, choice_code, chosen_code, answer_code}
+use Rattle.p9_flat.specs.Step.{Own, frame, gone_to, stepped, copied_to, copied_from, step}
+use Rattle.p9_flat.proofs.Playing.{has_first, has_second, IsSimple, simple_used, simple_wrong, simple_done, simple_option, simple_bind, by_moves, by_fails, by_branch}
 use Rattle.p9_flat.proofs.Resolving.{by_operation, operation_is, by_tests, holds_is, narrow_is}
 use Rattle.p9_flat.proofs.Runs.{World, PlaysIn, Landing, Runs, Straight, Pushes, seq, empty, moving, simple, lacking, using, lacking_of, along, by_jump}
 
@@ -35,7 +34,7 @@ place_of own here = record { «module» = own.owner; node = here }
 
 -- what has no meaning behind a use
 pub unused : {A B : Type 0} (v : Value) (s : State) (place : Place) (k : A → State → Play B)
-    → bind (used v s (λ x. NoMeaning {A = A} place s)) k ≡ used v s (λ x. NoMeaning place s)
+    → bind (used {A = A} v s (λ x. NoMeaning place s)) k ≡ used v s (λ x. NoMeaning place s)
 unused (Word n) s place k = refl
 unused (Address p) s place k = refl
 unused (Missing call) s place k = refl
@@ -340,6 +339,13 @@ module _ (w : World) (own : Own) where
       along (λ s. bind (test_by (tests type) (place_of own here) v s) (λ holds t. if holds then p t else q t))
       (λ s. ap (λ r. bind r (λ holds t. if holds then p t else q t)) (test_is type (place_of own here) v s))
       (choice_by (tests type) pc here first second v stack p q lands joins one two)
+
+  -- a change of a word
+  pub wording : (change : ℕ → ℕ) (pc here : ℕ) (o : Op) (v : Value) (stack : List Value)
+      → ((s : State) → step w.names o (frame pc (v ∷ stack) own) s ≡ stepped (used v s (λ x. done_at (place_of own here) s (of_integer change x))) (frame pc stack own))
+      → Runs Value w own pc (o ∷ []) (v ∷ stack) (λ s. used v s (λ x. done_at (place_of own here) s (of_integer change x))) (Pushes w own stack)
+  wording change pc here o v stack is =
+      simple stack (λ s. simple_used v s (λ x. done_at (place_of own here) s (of_integer change x)) (λ x. simple_done (place_of own here) s (of_integer change x))) is
 
   -- what a call gives
   answer_is_simple : (place : Place) (v : Value) (s : State) → IsSimple (answered_as true place v s)

@@ -1,5 +1,5 @@
 -- Code plays a play by steps.
-use Rattle.std.proofs.Common.{◌≡◌, ◌⊎◌, ℕ, zero, suc, ◌+◌, Bool, if◌then◌else◌, List, [], ◌∷◌, ◌++◌, length, Option, Some, None, Result, Ok, Err, slice_get, inl, inr, refl, sym, ap, subst, ◌∙◌, arith}
+use Rattle.std.proofs.Common.{◌≡◌, ℕ, zero, suc, ◌+◌, Bool, if◌then◌else◌, List, [], ◌∷◌, ◌++◌, length, Option, Some, None, Result, Ok, Err, slice_get, inl, inr, refl, sym, subst, arith}
 use Rattle.p9_cmean.specs.declared.Cause.{Cause}
 use Rattle.p9_cmean.specs.declared.Place.{Place}
 use Rattle.p9_cmean.specs.Cells.{Value, Word, Address, Missing, State}
@@ -7,7 +7,7 @@ use Rattle.p9_cmean.specs.Places.{used, or_wrong, done_at, or_no_meaning}
 use Rattle.p9_cmean.specs.Plays.{Call, Play, Done, Wrong, NoMeaning, Exit, Cut, Turn, Ask, Moved, bind}
 use Rattle.p9_flat.specs.declared.op.Op.{Op}
 use Rattle.p9_flat.specs.Flat.{HasAt}
-use Rattle.p9_flat.specs.Step.{Names, Frame, frame, Step, Next, Gives, Fails, Lacks, Turns, Moves, Calls, pushed, gone_to, stepped, branched, step, step_at, answered, Agrees, Meets, Plays}
+use Rattle.p9_flat.specs.Step.{Names, Frame, Next, Gives, Fails, Lacks, Turns, Moves, Calls, pushed, gone_to, stepped, branched, step, step_at, answered, Agrees, Meets, Plays}
 
 pub has_first : (all : List Op) (pc : ℕ) (xs ys : List Op) → HasAt all pc (xs ++ ys) → HasAt all pc xs
 has_first all pc [] ys h = tt

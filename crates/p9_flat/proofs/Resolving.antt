@@ -1,5 +1,5 @@
 -- Operations whose types are resolved do what the meaning's operations do by types.
-use Rattle.std.proofs.Common.{◌≡◌, ℕ, zero, suc, Bool, true, false, if◌then◌else◌, List, Option, Some, None, option_map, Result, Ok, Err, refl, sym, ap}
+use Rattle.std.proofs.Common.{◌≡◌, ℕ, Bool, true, false, if◌then◌else◌, List, Option, Some, None, option_map, Result, Ok, Err, refl, ap}
 use Rattle.p9_lang.specs.declared.tree.CBinary.{CBinary}
 use Rattle.p9_lang.specs.declared.tree.CBinary.TheVariants as operator
 use Rattle.p9_lang.specs.Types.{TypeTree, Void, Char, UChar, Short, UShort, Int, UInt, Long, ULong, Pointer, Array, Function, Tagged, Tags}

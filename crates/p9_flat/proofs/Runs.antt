@@ -1,16 +1,15 @@
 -- Pieces of code that run what plays do.
-use Rattle.std.proofs.Common.{◌≡◌, ℕ, zero, suc, ◌+◌, Bool, true, false, if◌then◌else◌, List, [], ◌∷◌, ◌++◌, length, Option, Some, None, slice_get, refl, sym, ap, subst, ◌∙◌, arith, length-append}
+use Rattle.std.proofs.Common.{◌≡◌, ℕ, suc, ◌+◌, List, [], ◌∷◌, ◌++◌, length, Some, slice_get, refl, sym, subst, arith, length-append}
 use Rattle.p9_cmean.specs.declared.Cause.TheVariants as cause
-use Rattle.p9_cmean.specs.declared.Place.{Place}
 use Rattle.p9_cmean.specs.Cells.{Value, Word, Address, Missing, State}
 use Rattle.p9_cmean.specs.Places.{used}
-use Rattle.p9_cmean.specs.Plays.{Play, Done, Wrong, NoMeaning, bind}
+use Rattle.p9_cmean.specs.Plays.{Play, Done, NoMeaning, bind}
 use Rattle.p9_cmean.proofs.Plays.{bind_assoc}
 use Rattle.p9_flat.specs.declared.op.Op.{Op}
 use Rattle.p9_flat.specs.declared.op.Op.TheVariants as op
 use Rattle.p9_flat.specs.Flat.{HasAt}
-use Rattle.p9_flat.specs.Code.{behind, lacks, lacks_of}
-use Rattle.p9_flat.specs.Step.{Names, Own, Frame, frame, Next, Lacks, stepped, step, place_in, Plays}
+use Rattle.p9_flat.specs.Code.{lacks, lacks_of}
+use Rattle.p9_flat.specs.Step.{Names, Own, Frame, frame, Next, stepped, step, Plays}
 use Rattle.p9_flat.proofs.Playing.{has_first, has_second, IsSimple, by_next, by_lacks, by_fails, by_simple}
 
 -- what stays the same while a call runs: what numbers name, all code, and the values of the calls that wait

@@ -1,5 +1,5 @@
 -- The laws of linear code.
-use Rattle.std.specs.Prelude.{◌≡◌, ℕ, List}
+use Rattle.std.specs.Prelude.{◌≡◌}
 use Rattle.p9_lang.specs.Types.{TypeTree}
 use Rattle.p9_cmean.specs.Cells.{FunctionName}
 use Rattle.p9_cmean.specs.Expressions.{Surroundings}
