@@ -253,7 +253,7 @@ module _ (w : World) (own : Own) where
   numbered result pc here o of_pointer v stack is =
       simple stack (λ s. simple_bind (test of_pointer (place_of own here) v s) (λ holds t. Done (Word (result holds)) t) (tested of_pointer here v s) (λ holds t. tt)) is
 
-  lacking_test : {A : Type 0} (pc here : ℕ) (v : Value) (stack : List Value) (k : Bool → State → Play A) (lands : Landing A)
+  pub lacking_test : {A : Type 0} (pc here : ℕ) (v : Value) (stack : List Value) (k : Bool → State → Play A) (lands : Landing A)
       → Runs A w own pc (lacks_of here) (v ∷ stack) (λ s. bind (used v s (λ x. NoMeaning (place_of own here) s)) k) lands
   lacking_test pc here v stack k lands =
       along (λ s. used v s (λ x. NoMeaning (place_of own here) s)) (λ s. unused v s (place_of own here) k) (lacking_of v)

@@ -4,3 +4,7 @@ pub mod Resolving
 pub mod Accesses
 pub mod Naming
 pub mod Exprs
+pub mod Blocks
+pub mod Flows
+pub mod Switches
+pub mod Stmts
