@@ -8,11 +8,10 @@ use Rattle.p9_cmean.specs.Cells.{Object, Value, State}
 use Rattle.p9_cmean.specs.Plays.{Play}
 use Rattle.p9_cmean.specs.Automatics.{Declared, Living, unset_object, numbered, with_objects, all_dead, left}
 use Rattle.p9_cmean.specs.Expressions.{Surroundings}
-use Rattle.p9_flat.specs.declared.op.Op.{Op}
 use Rattle.p9_flat.specs.declared.op.Op.TheVariants as op
 use Rattle.p9_flat.specs.Code.{Slot}
 use Rattle.p9_flat.specs.Flat.{HasAt, slots, makes}
-use Rattle.p9_flat.specs.Step.{Own, Next, frame, unset, all_killed, killed, step}
+use Rattle.p9_flat.specs.Step.{Next, frame, unset, all_killed, killed, step}
 use Rattle.p9_flat.proofs.Playing.{by_next}
 use Rattle.p9_flat.proofs.Runs.{World, PlaysIn}
 use Rattle.p9_flat.proofs.Naming.{Fits, own_of}

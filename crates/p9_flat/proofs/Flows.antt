@@ -1,21 +1,18 @@
 -- How statements end, and where they go on: pieces of code of loops and switches.
-use Rattle.std.proofs.Common.{◌≡◌, ℕ, zero, suc, ◌+◌, Bool, true, false, if◌then◌else◌, List, [], ◌∷◌, ◌++◌, length, Option, Some, None, slice_get, refl, sym, ap, subst, ◌∙◌, arith, length-append}
+use Rattle.std.proofs.Common.{◌≡◌, ℕ, zero, suc, ◌+◌, Bool, true, false, if◌then◌else◌, List, [], ◌∷◌, ◌++◌, length, Option, Some, None, slice_get, refl, sym, ap, subst, arith, length-append}
 use Rattle.p9_lang.specs.Types.{TypeTree}
-use Rattle.p9_cmean.specs.declared.Place.{Place}
 use Rattle.p9_cmean.specs.Cells.{Value, Missing, State}
-use Rattle.p9_cmean.specs.Places.{used}
-use Rattle.p9_cmean.specs.Plays.{Play, Done, NoMeaning, Cut, Turn, bind, Flow, Normal, Broke, Continued, Returned, Went, then_go, after_turn, after_switch, Loop, turn_of, tested_loop}
+use Rattle.p9_cmean.specs.Plays.{Play, Done, Cut, bind, Flow, Normal, Broke, Continued, Returned, Went, then_go, after_turn, Loop, turn_of, tested_loop}
 use Rattle.p9_cmean.specs.Expressions.{test_at}
 use Rattle.p9_cmean.proofs.Plays.{bind_assoc}
 use Rattle.p9_flat.specs.declared.op.Op.{Op}
 use Rattle.p9_flat.specs.declared.op.Op.TheVariants as op
 use Rattle.p9_flat.specs.Resolved.{tests}
-use Rattle.p9_flat.specs.Code.{lacks_of}
-use Rattle.p9_flat.specs.Flat.{HasAt, Ends, guarded, if_code, branch_code, turning, in_loop}
-use Rattle.p9_flat.specs.Step.{Own, Turns, frame, gone_to}
+use Rattle.p9_flat.specs.Flat.{HasAt, Ends, if_code, branch_code, turning, in_loop}
+use Rattle.p9_flat.specs.Step.{Own, frame}
 use Rattle.p9_flat.proofs.Playing.{has_first, has_second, by_turn, by_cut}
 use Rattle.p9_flat.proofs.Runs.{World, PlaysIn, Landing, Runs, Straight, seq, along, by_jump}
-use Rattle.p9_flat.proofs.Accesses.{place_of, unused, test_by, test_is, lacking_test, branching, Joins}
+use Rattle.p9_flat.proofs.Accesses.{place_of, test_by, test_is, lacking_test, branching, Joins}
 
 -- the play goes on where a statement that ended so goes on
 abbrev pub GoesTo : World → Own → Ends → List Value → (fin : ℕ) → Flow → Play Value → State → Type 0

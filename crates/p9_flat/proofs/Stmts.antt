@@ -1,5 +1,5 @@
 -- The code of a statement runs what the statement does.
-use Rattle.std.proofs.Common.{◌≡◌, ℕ, zero, suc, ◌+◌, ◌==◌, Bool, true, false, if◌then◌else◌, List, [], ◌∷◌, ◌++◌, length, map, option_map, Option, Some, None, slice_get, refl, sym, ap, subst, ◌∙◌, arith, length-append, append-nil}
+use Rattle.std.proofs.Common.{◌≡◌, ℕ, zero, suc, ◌+◌, Bool, true, false, if◌then◌else◌, List, [], ◌∷◌, ◌++◌, length, map, Option, Some, None, slice_get, refl, sym, ap, subst, ◌∙◌, arith, length-append, append-nil}
 use Rattle.p9_lang.specs.declared.tree.Kind.TheVariants as kind
 use Rattle.p9_lang.specs.Types.{TypeTree}
 use Rattle.p9_lang.specs.Trees.{node, none, more}
@@ -7,28 +7,27 @@ use Rattle.p9_lang.specs.Modules.{Label, Typed, TypedRow}
 use Rattle.p9_cmean.specs.declared.Cause.TheVariants as cause
 use Rattle.p9_cmean.specs.declared.Place.{Place}
 use Rattle.p9_cmean.specs.Cells.{Pointer, Value, Word, Address, Missing, State}
-use Rattle.p9_cmean.specs.Plays.{Play, Done, NoMeaning, bind, Flow, Normal, Broke, Continued, Returned, Went, then_go, after_switch, Loop, turn_of, tested_loop, no_step}
-use Rattle.p9_cmean.specs.Places.{used, or_wrong, or_no_meaning}
-use Rattle.p9_cmean.specs.Access.{integer_in}
-use Rattle.p9_cmean.specs.Automatics.{Declared, Living, unset_object, numbered, with_objects, left}
+use Rattle.p9_cmean.specs.Plays.{Play, Done, Wrong, NoMeaning, Exit, Cut, Turn, Ask, Moved, bind, Flow, Normal, Broke, Continued, Returned, Went, after_switch, no_step}
+use Rattle.p9_cmean.specs.Places.{or_no_meaning}
+use Rattle.p9_cmean.specs.Automatics.{Declared, Living, numbered, left}
 use Rattle.p9_cmean.specs.Declarations.{Automatic, declared_by, declared_in, declaration_of}
-use Rattle.p9_cmean.specs.Expressions.{Surroundings, at, operand_type, pointer_to, convert_at, conversion_of, assign, test_at, value}
-use Rattle.p9_cmean.specs.Statements.{effect, condition, initialised, all_initialised, returned, entered, living_in, inside, in_block, loop_of, always, is_case_of, is_default, parts_before, or_else, entry_of, run_from, switched, statement, statements, statements_from, for_loop}
+use Rattle.p9_cmean.specs.Expressions.{Surroundings, at, operand_type, pointer_to, conversion_of, assign, test_at, value}
+use Rattle.p9_cmean.specs.Statements.{effect, condition, initialised, all_initialised, entered, living_in, in_block, loop_of, always, is_default, parts_before, or_else, entry_of, run_from, switched, statement, statements, statements_from, for_loop}
 use Rattle.p9_cmean.proofs.Plays.{bind_assoc}
 use Rattle.p9_flat.specs.declared.op.Op.{Op}
 use Rattle.p9_flat.specs.declared.op.Op.TheVariants as op
-use Rattle.p9_flat.specs.Resolved.{tests}
-use Rattle.p9_flat.specs.Code.{Numbers, Slot, Setting, meant_code, convert_code, assign_code, choice_code, value_code}
-use Rattle.p9_flat.specs.Flat.{HasAt, Ends, initial_code, initials_code, slots, within, makes, exits, ends_at, body_at, left_body, block_code, if_code, condition_code, effect_code, turning, turning_from, in_loop, switching, statement_code, statements_code, labels_code, default_at, for_code}
+use Rattle.p9_flat.specs.declared.op.Scalar.TheVariants as scalar
+use Rattle.p9_flat.specs.Code.{Numbers, Slot, Setting, value_code}
+use Rattle.p9_flat.specs.Flat.{HasAt, Ends, initial_code, initials_code, slots, makes, exits, ends_at, body_at, left_body, block_code, condition_code, effect_code, in_loop, switching, statement_code, statements_code, labels_code, default_at, for_code}
 use Rattle.p9_flat.specs.Laws.{AreNamed}
-use Rattle.p9_flat.specs.Step.{Own, Next, frame, step}
+use Rattle.p9_flat.specs.Step.{Own, frame}
 use Rattle.p9_flat.proofs.Playing.{has_first, has_second, by_next, by_fails}
-use Rattle.p9_flat.proofs.Runs.{World, PlaysIn, Landing, Runs, Straight, Pushes, seq, empty, moving, lacking, along, by_jump}
+use Rattle.p9_flat.proofs.Runs.{World, PlaysIn, Runs, Straight, Pushes, seq, empty, moving, lacking, along, by_jump}
 use Rattle.p9_flat.proofs.Accesses.{place_of, converting, choice}
 use Rattle.p9_flat.proofs.Naming.{Fits, own_of, with_living, address_or, meaning}
 use Rattle.p9_flat.proofs.Exprs.{assigned, value_runs}
 use Rattle.p9_flat.proofs.Blocks.{fresh, numbers_of, fresh_length, fits_kept, fits_more, making, leaving_step}
-use Rattle.p9_flat.proofs.Flows.{Goes, Branches, goes_joins, going_on, normal, then_runs, branch_runs, always_runs, guard_runs, LoopRuns, tested_runs, untested_runs}
+use Rattle.p9_flat.proofs.Flows.{Goes, Branches, goes_joins, going_on, normal, then_runs, branch_runs, always_runs, guard_runs, tested_runs, untested_runs}
 use Rattle.p9_flat.proofs.Switches.{arm_at, arm_or, default_is, labels_play}
 
 -- what is in scope where a statement stands
@@ -42,17 +41,20 @@ pub record Inside : Type 0 where
 
 bind_done : (p : Play Flow) → bind p (λ flow t. Done flow t) ≡ p
 bind_done (Done x s) = refl
-bind_done (Rattle.p9_cmean.specs.Plays.Wrong why place s) = refl
+bind_done (Wrong why place s) = refl
 bind_done (NoMeaning place s) = refl
-bind_done (Rattle.p9_cmean.specs.Plays.Exit text s) = refl
-bind_done (Rattle.p9_cmean.specs.Plays.Cut s) = refl
-bind_done (Rattle.p9_cmean.specs.Plays.Turn s p) = ap (Rattle.p9_cmean.specs.Plays.Turn s) (bind_done p)
-bind_done (Rattle.p9_cmean.specs.Plays.Ask call s p) = λ i. Rattle.p9_cmean.specs.Plays.Ask call s (λ v t. bind_done (p v t) i)
-bind_done (Rattle.p9_cmean.specs.Plays.Moved bytes p) = ap (Rattle.p9_cmean.specs.Plays.Moved bytes) (bind_done p)
+bind_done (Exit text s) = refl
+bind_done (Cut s) = refl
+bind_done (Turn s p) = ap (Turn s) (bind_done p)
+bind_done (Ask call s p) = λ i. Ask call s (λ v t. bind_done (p v t) i)
+bind_done (Moved bytes p) = ap (Moved bytes) (bind_done p)
+
+abbrev finished : Value → State → Play (Unit {0})
+finished x s = Done tt s
 
 initial_is : (now : Surroundings) (place : Place) (e : Typed) (type : TypeTree) (o : Option Pointer) (s : State)
-    → or_no_meaning place s o (λ p. bind (value now e s) (λ v t. bind (assign now place e type (Address p) v t) (λ x u. Done tt u)))
-    ≡ bind (address_or place o s) (λ p t. bind (value now e t) (λ v u. bind (assign now place e type p v u) (λ x y. Done tt y)))
+    → or_no_meaning place s o (λ p. bind (value now e s) (λ v t. bind (assign now place e type (Address p) v t) finished))
+    ≡ bind (address_or place o s) (λ p t. bind (value now e t) (λ v u. bind (assign now place e type p v u) finished))
 initial_is now place e type (Some p) s = refl
 initial_is now place e type None s = refl
 
@@ -86,7 +88,7 @@ module _ (w : World) (numbers : Numbers) (around : Surroundings) (named : AreNam
   initial_by i number name None pc stack = empty tt
   initial_by i number name (Some e) pc stack =
       along (λ s. bind (address_or (place_of (own_in i) name.number) (pointer_to (now_in i) name.type name.means) s) (λ p t.
-      bind (value (now_in i) e t) (λ v u. bind (assign (now_in i) (place_of (own_in i) name.number) e name.type p v u) (λ x y. Done tt y))))
+      bind (value (now_in i) e t) (λ v u. bind (assign (now_in i) (place_of (own_in i) name.number) e name.type p v u) finished)))
       (λ s. initial_is (now_in i) (place_of (own_in i) name.number) e name.type (pointer_to (now_in i) name.type name.means) s)
       (seq (meaning w numbers around named i.scope i.alive i.living i.automatics call i.fits name.type name.means pc name.number stack) (λ p.
       seq (valuing i e _ (p ∷ stack)) (λ v.
@@ -196,3 +198,198 @@ module _ (w : World) (numbers : Numbers) (around : Surroundings) (named : AreNam
       (leaving i (d ∷ ds) ends (length s.objects) (suc m) stop stack k (has_first w.all (suc m) (exits ends i.alive) (code ++ op.Leave i.alive ∷ []) rest.1)
       (has_second w.all (body_at (suc m)) code (op.Leave i.alive ∷ []) stop refl body_stands).0
       (λ flow t. subst (λ j. Goes w (own_in i) ends stack j flow (k flow t) t) same (go flow t)))))) }
+
+  -- SWITCHES
+
+  module _ (turns : ℕ) (arms : TypedRow) (i : Inside) (ends : Ends) (here pc : ℕ) (stack : List Value) where
+    abbrev outs : Ends
+    outs = record ends { broke = suc (suc pc) }
+
+    abbrev arms_code : List Op
+    arms_code = statements_code (setting_in i) outs (suc (suc (suc pc))) arms
+
+    abbrev labels_part : List Op
+    labels_part = labels_code (setting_in i) outs (suc (suc (suc pc))) arms
+
+    abbrev default_part : ℕ
+    default_part = default_at (setting_in i) outs (suc (suc (suc pc))) (suc (suc pc)) arms
+
+    abbrev labels_at : ℕ
+    labels_at = suc (suc (suc (suc pc)) + length arms_code)
+
+    abbrev out_at : ℕ
+    out_at = suc (suc (labels_at + length labels_part))
+
+    abbrev run_arms : ℕ → State → Play Flow
+    run_arms n u = statements_from turns (now_in i) n arms u
+
+    -- the arms from each of them on
+    abbrev ArmsRun : Type 0
+    ArmsRun =
+        (n : ℕ) (s : State) (k : Flow → State → Play Value)
+        → ((flow : Flow) (t : State) → Goes w (own_in i) outs stack (suc (suc (suc pc)) + length arms_code) flow (k flow t) t)
+        → PlaysIn w (bind (run_arms n s) k) (frame (arm_at (setting_in i) outs (suc (suc (suc pc))) arms n) stack (own_in i)) s
+
+    module _ (out : slice_get w.all (suc (suc pc)) ≡ Some (op.Jump out_at)) (back : slice_get w.all (suc (suc (suc pc)) + length arms_code) ≡ Some (op.Jump (suc (suc pc))))
+        (runs : ArmsRun) (k : Flow → State → Play Value) (go : (flow : Flow) (t : State) → Goes w (own_in i) ends stack out_at flow (k flow t) t) where
+      broken : (t : State) → PlaysIn w (k Normal t) (frame (suc (suc pc)) stack (own_in i)) t
+      broken t = by_jump w (own_in i) (k Normal t) (suc (suc pc)) out_at stack t out (go Normal t).goes
+
+      after_arms : (flow : Flow) (t : State) → Goes w (own_in i) outs stack (suc (suc (suc pc)) + length arms_code) flow (bind (after_switch flow t) k) t
+      after_arms Normal t = record { goes = by_jump w (own_in i) (k Normal t) (suc (suc (suc pc)) + length arms_code) (suc (suc pc)) stack t back (broken t) }
+      after_arms Broke t = record { goes = broken t }
+      after_arms Continued t = record { goes = (go Continued t).goes }
+      after_arms (Returned None) t = record { goes = (go (Returned None) t).goes }
+      after_arms (Returned (Some v)) t = record { goes = (go (Returned (Some v)) t).goes }
+      after_arms (Went l) t = record { goes = tt }
+
+      from_arm : (n : ℕ) (s : State)
+          → PlaysIn w (bind (run_from (Some n) run_arms s) k) (frame (arm_at (setting_in i) outs (suc (suc (suc pc))) arms n) stack (own_in i)) s
+      from_arm n s =
+          subst (λ p. PlaysIn w p (frame (arm_at (setting_in i) outs (suc (suc (suc pc))) arms n) stack (own_in i)) s)
+          (sym (bind_assoc (run_arms n s) (λ flow t. after_switch flow t) k))
+          (runs n s (λ flow t. bind (after_switch flow t) k) after_arms)
+
+      from_default : (o : Option ℕ) (s : State)
+          → PlaysIn w (bind (run_from o run_arms s) k) (frame (arm_or (setting_in i) outs (suc (suc (suc pc))) (suc (suc pc)) arms o) stack (own_in i)) s
+      from_default None s = broken s
+      from_default (Some n) s = from_arm n s
+
+      from_labels : (word : ℕ) (s : State) → HasAt w.all labels_at (labels_part ++ op.Pop ∷ op.Jump default_part ∷ [])
+          → PlaysIn w (bind (run_from (entry_of around.tags word arms) run_arms s) k) (frame labels_at (Word word ∷ stack) (own_in i)) s
+      from_labels word s h =
+          let tail = has_second w.all labels_at labels_part (op.Pop ∷ op.Jump default_part ∷ []) (labels_at + length labels_part) refl h in
+          labels_play w (own_in i) word stack (bind (run_from (entry_of around.tags word arms) run_arms s) k) s (setting_in i) outs arms (suc (suc (suc pc))) labels_at
+          (labels_at + length labels_part) (has_first w.all labels_at labels_part (op.Pop ∷ op.Jump default_part ∷ []) h) refl
+          (λ n same. subst (λ o. PlaysIn w (bind (run_from (or_else o (parts_before is_default arms)) run_arms s) k) (frame (arm_at (setting_in i) outs (suc (suc (suc pc))) arms n) stack (own_in i)) s)
+          (sym same) (from_arm n s))
+          (λ same. subst (λ o. PlaysIn w (bind (run_from (or_else o (parts_before is_default arms)) run_arms s) k) (frame (labels_at + length labels_part) (Word word ∷ stack) (own_in i)) s)
+          (sym same)
+          (by_next w.names w.all w.below (bind (run_from (parts_before is_default arms) run_arms s) k) (frame (labels_at + length labels_part) (Word word ∷ stack) (own_in i))
+          (frame (suc (labels_at + length labels_part)) stack (own_in i)) s s op.Pop tail.0 refl
+          (by_jump w (own_in i) (bind (run_from (parts_before is_default arms) run_arms s) k) (suc (labels_at + length labels_part)) default_part stack s tail.1.0
+          (subst (λ m. PlaysIn w (bind (run_from (parts_before is_default arms) run_arms s) k) (frame m stack (own_in i)) s)
+          (sym (default_is (setting_in i) outs arms (suc (suc (suc pc))) (suc (suc pc)))) (from_default (parts_before is_default arms) s)))))
+
+    switch_runs : (HasAt w.all (suc (suc (suc pc))) arms_code → ArmsRun) → (v : Value)
+        → Runs Flow w (own_in i) pc (switching here pc arms_code labels_part default_part) (v ∷ stack)
+        (λ t. switched (place_of (own_in i) here) v t (λ word. run_from (entry_of around.tags word arms) run_arms t)) (Goes w (own_in i) ends stack)
+    switch_runs runs (Word n) = record { runs = λ h fin e s k go.
+        let tail : List Op = labels_part ++ op.Pop ∷ op.Jump default_part ∷ [] in
+        let l = length-append arms_code (op.Jump (suc (suc pc)) ∷ tail) in
+        let m = length-append labels_part (op.Pop ∷ op.Jump default_part ∷ []) in
+        let same : fin ≡ out_at = omega (arith, e, l, m) in
+        let rest = has_second w.all (suc (suc (suc pc))) arms_code (op.Jump (suc (suc pc)) ∷ tail) (suc (suc (suc pc)) + length arms_code) refl h.1.1.1 in
+        by_next w.names w.all w.below (bind (run_from (entry_of around.tags n arms) run_arms s) k) (frame pc (Word n ∷ stack) (own_in i)) (frame (suc pc) (Word n ∷ stack) (own_in i)) s s
+        (op.Narrow scalar.Word here) h.0 refl
+        (by_jump w (own_in i) (bind (run_from (entry_of around.tags n arms) run_arms s) k) (suc pc) labels_at (Word n ∷ stack) s h.1.0
+        (from_labels h.1.1.0 rest.0 (runs (has_first w.all (suc (suc (suc pc))) arms_code (op.Jump (suc (suc pc)) ∷ tail) h.1.1.1)) k
+        (λ flow t. subst (λ j. Goes w (own_in i) ends stack j flow (k flow t) t) same (go flow t)) n s rest.1)) }
+    switch_runs runs (Address p) = record { runs = λ h fin e s k go.
+        by_fails w.names w.all w.below cause.Mixed (place_of (own_in i) here) (frame pc (Address p ∷ stack) (own_in i)) s s (op.Narrow scalar.Word here) h.0 refl }
+    switch_runs runs (Missing there) = record { runs = λ h fin e s k go.
+        by_fails w.names w.all w.below cause.NoValue there (frame pc (Missing there ∷ stack) (own_in i)) s s (op.Narrow scalar.Word here) h.0 refl }
+
+  -- STATEMENTS
+
+  module _ (turns : ℕ) where
+    mutual
+      pub statement_runs : (x : Typed) (i : Inside) (ends : Ends) (pc : ℕ) (stack : List Value)
+          → Runs Flow w (own_in i) pc (statement_code (setting_in i) ends pc x) stack (λ s. statement turns (now_in i) x s) (Goes w (own_in i) ends stack)
+      statement_runs (node kind.Block label parts) i ends pc stack =
+          block_runs (map declaration_of (declared_in parts)) (λ inner outs m. statements_code inner outs m parts) (λ inner t. statements turns inner parts t)
+          (λ j outs m st. statements_run parts j outs m st) i ends pc stack
+      statement_runs (node (kind.Declaration spec inits) label parts) i ends pc stack =
+          going_on w (own_in i) (initials_run i (declared_by (node (kind.Declaration spec inits) label parts)) pc stack)
+      statement_runs (node kind.Expression label none) i ends pc stack = normal w (own_in i)
+      statement_runs (node kind.Expression label (more e none)) i ends pc stack = going_on w (own_in i) (effect_runs i e pc stack)
+      statement_runs (node kind.If label (more which (more first none))) i ends pc stack =
+          along (λ s. bind (value (now_in i) which s) (λ v t. bind (test_at (at around label) (operand_type which) v t) (λ holds u. if holds then statement turns (now_in i) first u else Done Normal u)))
+          (λ s. bind_assoc (value (now_in i) which s) (λ v t. test_at (at around label) (operand_type which) v t) (λ holds u. if holds then statement turns (now_in i) first u else Done Normal u))
+          (seq (valuing i which pc stack) (λ v.
+          guard_runs w (own_in i) (operand_type which) _ label.number (λ n. statement_code (setting_in i) ends n first) v stack (λ t. statement turns (now_in i) first t) ends
+          (λ n. statement_runs first i ends n stack)))
+      statement_runs (node kind.If label (more which (more first (more second none)))) i ends pc stack =
+          along (λ s. bind (value (now_in i) which s) (λ v t. bind (test_at (at around label) (operand_type which) v t)
+          (λ holds u. if holds then statement turns (now_in i) first u else statement turns (now_in i) second u)))
+          (λ s. bind_assoc (value (now_in i) which s) (λ v t. test_at (at around label) (operand_type which) v t)
+          (λ holds u. if holds then statement turns (now_in i) first u else statement turns (now_in i) second u))
+          (seq (valuing i which pc stack) (λ v.
+          choice w (own_in i) (operand_type which) _ label.number (λ n. statement_code (setting_in i) ends n first) (λ n. statement_code (setting_in i) ends n second) v stack
+          (λ t. statement turns (now_in i) first t) (λ t. statement turns (now_in i) second t) (Goes w (own_in i) ends stack) (goes_joins w (own_in i) ends stack)
+          (λ n. statement_runs first i ends n stack) (λ n. statement_runs second i ends n stack)))
+      statement_runs (node kind.While label (more which (more body none))) i ends pc stack =
+          tested_runs w (own_in i) turns pc _ _ _ stack ends (loop_of (condition (now_in i) (at around label) which) no_step (λ t. statement turns (now_in i) body t)) (record {
+            steps = empty tt;
+            tests_run = condition_runs i which label.number (suc pc) _ stack;
+            bodies = statement_runs body i (in_loop pc ends) _ stack;
+          })
+      statement_runs (node kind.Do label (more body (more which none))) i ends pc stack =
+          untested_runs w (own_in i) turns pc _ _ _ stack ends (loop_of (condition (now_in i) (at around label) which) no_step (λ t. statement turns (now_in i) body t)) (record {
+            steps = empty tt;
+            tests_run = condition_runs i which label.number (suc pc) _ stack;
+            bodies = statement_runs body i (in_loop pc ends) _ stack;
+          })
+      statement_runs (node (kind.For true which next) label (more first others)) i ends pc stack =
+          seq (effect_runs i first pc stack) (λ done. for_runs label.number which next others i ends _ stack)
+      statement_runs (node (kind.For false which next) label others) i ends pc stack = for_runs label.number which next others i ends pc stack
+      statement_runs (node kind.Switch label (more e arms)) i ends pc stack =
+          seq (valuing i e pc stack) (λ v. switch_runs turns arms i ends label.number (pc + length (value_code (setting_in i) pc e)) stack
+          (λ h n s k go. arms_run arms i (record ends { broke = suc (suc (pc + length (value_code (setting_in i) pc e))) }) _ stack h _ refl n s k go) v)
+      statement_runs (node kind.Case label (more constant none)) i ends pc stack = normal w (own_in i)
+      statement_runs (node kind.Default label none) i ends pc stack = normal w (own_in i)
+      statement_runs (node kind.Break label none) i ends pc stack = breaking i ends pc stack
+      statement_runs (node kind.Continue label none) i ends pc stack = continuing i ends pc stack
+      statement_runs (node kind.Return label none) i ends pc stack = giving_nothing i ends pc stack
+      statement_runs (node kind.Return label (more e none)) i ends pc stack =
+          seq (valuing i e pc stack) (λ v.
+          seq (converting w (own_in i) (conversion_of (now_in i) e around.result) around.result _ label.number v stack) (λ x. returning i ends _ x stack))
+      statement_runs (node k label parts) i ends pc stack = lacking
+
+      pub statements_run : (row : TypedRow) (i : Inside) (ends : Ends) (pc : ℕ) (stack : List Value)
+          → Runs Flow w (own_in i) pc (statements_code (setting_in i) ends pc row) stack (λ s. statements turns (now_in i) row s) (Goes w (own_in i) ends stack)
+      statements_run none i ends pc stack = normal w (own_in i)
+      statements_run (more first others) i ends pc stack = then_runs w (own_in i) (statement_runs first i ends pc stack) (statements_run others i ends _ stack)
+
+      arms_run : (row : TypedRow) (i : Inside) (ends : Ends) (pc : ℕ) (stack : List Value) → HasAt w.all pc (statements_code (setting_in i) ends pc row)
+          → (fin : ℕ) → fin ≡ pc + length (statements_code (setting_in i) ends pc row) → (n : ℕ) (s : State) (k : Flow → State → Play Value)
+          → ((flow : Flow) (t : State) → Goes w (own_in i) ends stack fin flow (k flow t) t)
+          → PlaysIn w (bind (statements_from turns (now_in i) n row s) k) (frame (arm_at (setting_in i) ends pc row n) stack (own_in i)) s
+      arms_run none i ends pc stack h fin e zero s k go = subst (λ m. PlaysIn w (k Normal s) (frame m stack (own_in i)) s) (omega (arith, e)) (go Normal s).goes
+      arms_run none i ends pc stack h fin e (suc n) s k go = subst (λ m. PlaysIn w (k Normal s) (frame m stack (own_in i)) s) (omega (arith, e)) (go Normal s).goes
+      arms_run (more first others) i ends pc stack h fin e zero s k go =
+          (then_runs w (own_in i) (statement_runs first i ends pc stack) (statements_run others i ends _ stack)).runs h fin e s k go
+      arms_run (more first others) i ends pc stack h fin e (suc n) s k go =
+          let a : List Op = statement_code (setting_in i) ends pc first in
+          let b : List Op = statements_code (setting_in i) ends (pc + length a) others in
+          let l = length-append a b in
+          arms_run others i ends (pc + length a) stack (has_second w.all pc a b (pc + length a) refl h) fin (omega (arith, e, l)) n s k go
+
+      for_runs : (here : ℕ) (which next : Bool) (others : TypedRow) (i : Inside) (ends : Ends) (pc : ℕ) (stack : List Value)
+          → Runs Flow w (own_in i) pc (for_code (setting_in i) ends here which next pc others) stack (λ s. for_loop turns (now_in i) (place_of (own_in i) here) which next others s)
+          (Goes w (own_in i) ends stack)
+      for_runs here true true (more which (more next (more body none))) i ends pc stack =
+          tested_runs w (own_in i) turns pc _ _ _ stack ends (loop_of (condition (now_in i) (place_of (own_in i) here) which) (effect (now_in i) next) (λ t. statement turns (now_in i) body t)) (record {
+            steps = effect_runs i next _ stack;
+            tests_run = condition_runs i which here (suc pc) _ stack;
+            bodies = statement_runs body i (in_loop pc ends) _ stack;
+          })
+      for_runs here true false (more which (more body none)) i ends pc stack =
+          tested_runs w (own_in i) turns pc _ _ _ stack ends (loop_of (condition (now_in i) (place_of (own_in i) here) which) no_step (λ t. statement turns (now_in i) body t)) (record {
+            steps = empty tt;
+            tests_run = condition_runs i which here (suc pc) _ stack;
+            bodies = statement_runs body i (in_loop pc ends) _ stack;
+          })
+      for_runs here false true (more next (more body none)) i ends pc stack =
+          tested_runs w (own_in i) turns pc _ _ _ stack ends (loop_of always (effect (now_in i) next) (λ t. statement turns (now_in i) body t)) (record {
+            steps = effect_runs i next _ stack;
+            tests_run = always_runs w (own_in i) _ (suc pc) stack;
+            bodies = statement_runs body i (in_loop pc ends) _ stack;
+          })
+      for_runs here false false (more body none) i ends pc stack =
+          tested_runs w (own_in i) turns pc _ _ _ stack ends (loop_of always no_step (λ t. statement turns (now_in i) body t)) (record {
+            steps = empty tt;
+            tests_run = always_runs w (own_in i) _ (suc pc) stack;
+            bodies = statement_runs body i (in_loop pc ends) _ stack;
+          })
+      for_runs here which next others i ends pc stack = lacking
