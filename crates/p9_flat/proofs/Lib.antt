@@ -8,3 +8,4 @@ pub mod Blocks
 pub mod Flows
 pub mod Switches
 pub mod Stmts
+pub mod Whole

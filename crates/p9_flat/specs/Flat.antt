@@ -1,21 +1,21 @@
 -- The code of statements and functions.
 use Rattle.std.specs.Prelude.{◌≡◌, ℕ, suc, ◌+◌, Bool, true, false, if◌then◌else◌, List, [], ◌∷◌, ◌++◌, length, map, Option, Some, None, slice_get}
 use Rattle.p9_lang.specs.declared.tree.Kind.TheVariants as kind
-use Rattle.p9_lang.specs.Types.{Tags}
+use Rattle.p9_lang.specs.Types.{TypeTree, Function, Tags, row_types}
 use Rattle.p9_lang.specs.Trees.{node, none, more}
 use Rattle.p9_lang.specs.Layout.{size_of}
 use Rattle.p9_lang.specs.Constants.{Constant, NotConstant, Undefined, constant_of}
 use Rattle.p9_lang.specs.Constants as constants
 use Rattle.p9_lang.specs.Modules.{Typed, TypedRow}
 use Rattle.p9_cmean.specs.Automatics.{Declared}
-use Rattle.p9_cmean.specs.Declarations.{Automatic, declared_by, declared_in, declaration_of}
-use Rattle.p9_cmean.specs.Expressions.{operand_type, conversion_of}
-use Rattle.p9_cmean.specs.Statements.{is_default}
+use Rattle.p9_cmean.specs.Declarations.{Automatic, declared_by, declared_in, declaration_of, Definition}
+use Rattle.p9_cmean.specs.Expressions.{Surroundings, operand_type, conversion_of}
+use Rattle.p9_cmean.specs.Statements.{is_default, parameters_from}
 use Rattle.p9_flat.specs.declared.op.Op.{Op}
 use Rattle.p9_flat.specs.declared.op.Op.TheVariants as op
 use Rattle.p9_flat.specs.declared.op.Scalar.TheVariants as scalar
 use Rattle.p9_flat.specs.Resolved.{tests}
-use Rattle.p9_flat.specs.Code.{Slot, Setting, behind, lacks, lacks_of, meant_code, convert_code, assign_code, choice_code, value_code}
+use Rattle.p9_flat.specs.Code.{Numbers, Slot, Setting, behind, lacks, lacks_of, meant_code, convert_code, assign_code, choice_code, value_code}
 
 -- where a statement goes on that does not end by going on; at `returned` a value is at the top
 pub record Ends : Type 0 where
@@ -212,10 +212,28 @@ function_ends pc = record { broke = suc (suc pc); continued = suc (suc pc); retu
 abbrev pub entry_at : (pc : ℕ) → ℕ
 entry_at pc = suc (suc (suc (suc pc)))
 
-abbrev pub function_code : Setting → (pc : ℕ) → (block : Typed) → List Op
-function_code setting pc block =
+abbrev pub body_code : Setting → (pc : ℕ) → (block : Typed) → List Op
+body_code setting pc block =
     op.Leave 0 ∷ op.Return ∷ op.Leave 0 ∷ op.Stray
     ∷ (statement_code setting (function_ends pc) (entry_at pc) block ++ op.Nothing ∷ op.Jump pc ∷ [])
+
+-- parameters are the first automatics
+abbrev pub function_setting : Numbers → Surroundings → (result : TypeTree) → (parameters : List TypeTree) → Setting
+function_setting numbers around result parameters =
+    within (record { around = record around { result = result }; numbers = numbers; scope = []; alive = 0 }) (parameters_from 0 parameters)
+
+-- what is no function has no code
+abbrev pub function_code : Numbers → Surroundings → (pc : ℕ) → Definition → List Op
+function_code numbers around pc definition = by definition.name.type
+  where
+    by : TypeTree → List Op
+    by (Function result parameters) = body_code (function_setting numbers around result (row_types parameters)) pc definition.block
+    by type = []
+
+-- the sizes of a function's parameters
+abbrev pub parameter_sizes : Tags → TypeTree → Option (List ℕ)
+parameter_sizes tags (Function result parameters) = Some (map (size_of tags) (row_types parameters))
+parameter_sizes tags type = None
 
 -- the list stands in the code from a place on
 abbrev pub HasAt : List Op → ℕ → List Op → Type 0

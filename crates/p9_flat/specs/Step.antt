@@ -2,13 +2,14 @@
 use Rattle.std.specs.Prelude.{◌≡◌, ◌⊎◌, ℕ, zero, suc, ◌==◌, Bool, true, false, not, if◌then◌else◌, List, [], ◌∷◌, ◌++◌, length, take, drop, reverse, replicate, Option, Some, None, Result, Ok, Err, slice_get, slice_set}
 use Rattle.p9_base.specs.Words.{word_negation, word_complement}
 use Rattle.p9_lang.specs.Constants.{truth}
+use Rattle.p9_lang.specs.Layout.{on_some}
 use Rattle.p9_cmean.specs.declared.Cause.{Cause}
 use Rattle.p9_cmean.specs.declared.Cause.TheVariants as cause
 use Rattle.p9_cmean.specs.declared.Place.{Place}
 use Rattle.p9_cmean.specs.Cells.{FunctionName, Pointer, Into, ToFunction, Cell, Unset, Object, Value, Word, Address, Missing, State}
 use Rattle.p9_cmean.specs.Plays.{Call, Play, Done, Wrong, NoMeaning, Exit, Cut, Turn, Ask, Moved, bind}
 use Rattle.p9_cmean.specs.Places.{used, done_at}
-use Rattle.p9_cmean.specs.Access.{and_go, pointer_in, null, usable, moved_inside, read_whole, written_whole, dead_object}
+use Rattle.p9_cmean.specs.Access.{value_cells, and_go, pointer_in, null, usable, moved_inside, read_whole, written_whole, dead_object}
 use Rattle.p9_cmean.specs.Automatics.{live_object, with_objects}
 use Rattle.p9_cmean.specs.Operators.{of_integer}
 use Rattle.p9_cmean.specs.Expressions.{answered_as}
@@ -144,6 +145,30 @@ calling names type place arguments (Word n) f s =
 calling names type place arguments (Address pointer) f s =
     asking place arguments (and_go (pointer_in (Address pointer)) (function_of names type s.objects)) f s
 calling names type place arguments (Missing call) f s = Fails cause.NoValue call s
+
+-- ARGUMENTS, as objects of their parameters' sizes, where there are as many
+
+abbrev pub received_object : Result (List Cell) Cause → Option Object
+received_object (Ok cells) = Some (live_object cells)
+received_object (Err why) = None
+
+abbrev pub received : (sizes : List ℕ) → (arguments : List Value) → Option (List Object)
+received [] [] = Some []
+received [] (value ∷ values) = None
+received (size ∷ sizes) [] = None
+received (size ∷ sizes) (value ∷ values) =
+    on_some (received_object (value_cells size value)) (λ object.
+    on_some (received sizes values) (λ objects. Some (object ∷ objects)))
+
+-- the numbers of so many new objects
+abbrev pub following : (next count : ℕ) → List ℕ
+following next zero = []
+following next (suc count) = next ∷ following (suc next) count
+
+-- a call's own at its beginning
+abbrev pub own_at : (owner : ℕ) → (call : Place) → (parameters : ℕ) → State → Own
+own_at owner call parameters s =
+    record { automatics = following (length s.objects) parameters; call = call; owner = owner }
 
 -- OPERATIONS
 
