@@ -175,11 +175,13 @@ module _ (w : World) (own : Own) where
   pub copying : (around : Surroundings) (type : TypeTree) (pc read here : ℕ) (to from : Value) (stack : List Value)
       → Runs Value w own pc (op.Copy (size_of around.tags type) (alignment_of around.tags type) read here ∷ []) (from ∷ to ∷ stack)
       (λ s. assign_structure around (place_of own here) (place_of own read) type to from s) (Pushes w own stack)
-  copying around type pc read here to from stack = record { runs = λ h fin e s k go.
-      copy_from pc (size_of around.tags type) (alignment_of around.tags type) (place_of own read) (place_of own here) to from stack s
-      (op.Copy (size_of around.tags type) (alignment_of around.tags type) read here)
-      (read_whole (size_of around.tags type) (alignment_of around.tags type) s.objects from) k h.0 refl
-      (λ x t. subst (λ m. PlaysIn w (k x t) (frame m (x ∷ stack) own) t) (omega (arith, e)) (go x t).plays) }
+  copying around type pc read here to from stack = record {
+    runs = λ h fin e s k go.
+        copy_from pc (size_of around.tags type) (alignment_of around.tags type) (place_of own read) (place_of own here) to from stack s
+        (op.Copy (size_of around.tags type) (alignment_of around.tags type) read here)
+        (read_whole (size_of around.tags type) (alignment_of around.tags type) s.objects from) k h.0 refl
+        (λ x t. subst (λ m. PlaysIn w (k x t) (frame m (x ∷ stack) own) t) (omega (arith, e)) (go x t).plays);
+  }
 
   -- OPERATORS
 
@@ -316,19 +318,21 @@ module _ (w : World) (own : Own) where
       (λ s. bind (test_by o (place_of own here) v s) (λ holds t. if holds then p t else q t)) lands
   choice_by None pc here first second v stack p q lands joins one two =
       lacking_test pc here v stack (λ holds t. if holds then p t else q t) lands
-  choice_by (Some of_pointer) pc here first second v stack p q lands joins one two = record { runs = λ h fin e s k go.
-      let a : List Op = first (suc pc) in
-      let z : ℕ = suc (suc (pc + length a)) in
-      let b : List Op = second z in
-      let l = length-append a (op.Jump (z + length b) ∷ b) in
-      let tail = has_second w.all (suc pc) a (op.Jump (z + length b) ∷ b) (suc (pc + length a)) (omega arith) h.1 in
-      let same : fin ≡ z + length b = omega (arith, e, l) in
-      subst (λ r. PlaysIn w r (frame pc (v ∷ stack) own) s)
-      (sym (bind_assoc (test of_pointer (place_of own here) v s) (λ holds t. if holds then p t else q t) k))
-      (branching pc here z of_pointer v stack s (λ holds t. bind (if holds then p t else q t) k) h.0
-      (λ t. (one (suc pc)).runs (has_first w.all (suc pc) a (op.Jump (z + length b) ∷ b) h.1) (suc (pc + length a)) (omega arith) t k
-      (λ x u. joins (suc (pc + length a)) (z + length b) x (k x u) u tail.0 (subst (λ m. lands m x (k x u) u) same (go x u))))
-      (λ t. (two z).runs tail.1 fin same t k go)) }
+  choice_by (Some of_pointer) pc here first second v stack p q lands joins one two = record {
+    runs = λ h fin e s k go.
+        let a : List Op = first (suc pc) in
+        let z : ℕ = suc (suc (pc + length a)) in
+        let b : List Op = second z in
+        let l = length-append a (op.Jump (z + length b) ∷ b) in
+        let tail = has_second w.all (suc pc) a (op.Jump (z + length b) ∷ b) (suc (pc + length a)) (omega arith) h.1 in
+        let same : fin ≡ z + length b = omega (arith, e, l) in
+        subst (λ r. PlaysIn w r (frame pc (v ∷ stack) own) s)
+        (sym (bind_assoc (test of_pointer (place_of own here) v s) (λ holds t. if holds then p t else q t) k))
+        (branching pc here z of_pointer v stack s (λ holds t. bind (if holds then p t else q t) k) h.0
+        (λ t. (one (suc pc)).runs (has_first w.all (suc pc) a (op.Jump (z + length b) ∷ b) h.1) (suc (pc + length a)) (omega arith) t k
+        (λ x u. joins (suc (pc + length a)) (z + length b) x (k x u) u tail.0 (subst (λ m. lands m x (k x u) u) same (go x u))))
+        (λ t. (two z).runs tail.1 fin same t k go));
+  }
 
   pub choice : {A : Type 0} (type : TypeTree) (pc here : ℕ) (first second : ℕ → List Op) (v : Value) (stack : List Value) (p q : State → Play A)
       (lands : Landing A) → Joins lands

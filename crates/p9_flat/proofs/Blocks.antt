@@ -51,11 +51,13 @@ pub fits_more : (ds : List Declared) (scope : List Slot) (living : List Living) 
 fits_more [] scope living front number next e h = h
 fits_more (d ∷ ds) scope living front number next e h =
     let same = append_assoc front (next ∷ []) (fresh (suc next) ds) in
-    let count = length-append front (next ∷ []) in
-    (refl, subst (λ n. slice_get (front ++ next ∷ fresh (suc next) ds) n ≡ Some next) (sym e) (get_seam front (fresh (suc next) ds) next),
-    subst (λ l. Fits (slots (suc number) ds ++ scope) (numbered (suc next) (numbers_of ds) ++ living) l) same
-    (fits_more ds scope living (front ++ next ∷ []) (suc number) (suc next) (omega (arith, e, count))
-    (subst (λ l. Fits scope living l) (sym same) h)))
+    let count = length-append front (next ∷ []) in (
+      refl,
+      subst (λ n. slice_get (front ++ next ∷ fresh (suc next) ds) n ≡ Some next) (sym e) (get_seam front (fresh (suc next) ds) next),
+      subst (λ l. Fits (slots (suc number) ds ++ scope) (numbered (suc next) (numbers_of ds) ++ living) l) same
+          (fits_more ds scope living (front ++ next ∷ []) (suc number) (suc next) (omega (arith, e, count))
+          (subst (λ l. Fits scope living l) (sym same) h)),
+    )
 
 -- they die in the same order
 pub killed_is : (ds : List Declared) (next : ℕ) (objects : List Object) → all_killed (fresh next ds) objects ≡ all_dead (numbered next (numbers_of ds)) objects

@@ -148,34 +148,44 @@ module _ (w : World) (numbers : Numbers) (around : Surroundings) (named : AreNam
 
   calling_runs : (type : TypeTree) (count pc here : ℕ) (f : Value) (vs stack : List Value) → count ≡ length vs
       → Runs Value w own pc (call_code setting type count here) (onto vs (f ∷ stack)) (λ s. call_through now (place_of own here) type f vs s) (Pushes w own stack)
-  calling_runs type count pc here (Word n) vs stack c = record { runs = λ h fin e s k go.
-      call_by type pc here vs (onto vs (Word n ∷ stack)) stack s (op.Call count (numbers.call_type type) here) fin k
-      (and_go (pointer_in (Word n)) (function_at now type s.objects)) h.0
-      (call_step type count pc here (Word n) vs stack c s ∙ ap (λ r. asking (place_of own here) vs r (frame pc stack own) s) (named_function type s (Word n)))
-      (λ v u. (answering w own (gives_integer type) (suc pc) here v stack).runs h.1 fin (omega (arith, e)) u k go) }
-  calling_runs type count pc here (Address p) vs stack c = record { runs = λ h fin e s k go.
-      call_by type pc here vs (onto vs (Address p ∷ stack)) stack s (op.Call count (numbers.call_type type) here) fin k
-      (and_go (pointer_in (Address p)) (function_at now type s.objects)) h.0
-      (call_step type count pc here (Address p) vs stack c s ∙ ap (λ r. asking (place_of own here) vs r (frame pc stack own) s) (named_function type s (Address p)))
-      (λ v u. (answering w own (gives_integer type) (suc pc) here v stack).runs h.1 fin (omega (arith, e)) u k go) }
-  calling_runs type count pc here (Missing there) vs stack c = record { runs = λ h fin e s k go.
-      by_fails w.names w.all w.below cause.NoValue there (frame pc (onto vs (Missing there ∷ stack)) own) s s (op.Call count (numbers.call_type type) here) h.0
-      (call_step type count pc here (Missing there) vs stack c s) }
+  calling_runs type count pc here (Word n) vs stack c = record {
+    runs = λ h fin e s k go.
+        call_by type pc here vs (onto vs (Word n ∷ stack)) stack s (op.Call count (numbers.call_type type) here) fin k
+        (and_go (pointer_in (Word n)) (function_at now type s.objects)) h.0
+        (call_step type count pc here (Word n) vs stack c s ∙ ap (λ r. asking (place_of own here) vs r (frame pc stack own) s) (named_function type s (Word n)))
+        (λ v u. (answering w own (gives_integer type) (suc pc) here v stack).runs h.1 fin (omega (arith, e)) u k go);
+  }
+  calling_runs type count pc here (Address p) vs stack c = record {
+    runs = λ h fin e s k go.
+        call_by type pc here vs (onto vs (Address p ∷ stack)) stack s (op.Call count (numbers.call_type type) here) fin k
+        (and_go (pointer_in (Address p)) (function_at now type s.objects)) h.0
+        (call_step type count pc here (Address p) vs stack c s ∙ ap (λ r. asking (place_of own here) vs r (frame pc stack own) s) (named_function type s (Address p)))
+        (λ v u. (answering w own (gives_integer type) (suc pc) here v stack).runs h.1 fin (omega (arith, e)) u k go);
+  }
+  calling_runs type count pc here (Missing there) vs stack c = record {
+    runs = λ h fin e s k go.
+        by_fails w.names w.all w.below cause.NoValue there (frame pc (onto vs (Missing there ∷ stack)) own) s s (op.Call count (numbers.call_type type) here) h.0
+        (call_step type count pc here (Missing there) vs stack c s);
+  }
 
   -- ARGUMENTS
 
   no_arguments : (pc : ℕ) (stack : List Value)
       → Runs (List Value) w own pc [] stack (λ s. Done [] s) (StraightWhere (List Value) w own (λ vs. 0 ≡ length vs) (λ vs. onto vs stack))
-  no_arguments pc stack = record { runs = λ h fin e s k go.
-      subst (λ m. PlaysIn w (k [] s) (frame m stack own) s) (omega (arith, e)) ((go [] s).plays refl) }
+  no_arguments pc stack = record {
+    runs = λ h fin e s k go.
+        subst (λ m. PlaysIn w (k [] s) (frame m stack own) s) (omega (arith, e)) ((go [] s).plays refl);
+  }
 
   one_more : (v : Value) (count : ℕ) {pc : ℕ} {code : List Op} {stack : List Value} {f : State → Play (List Value)}
       → Runs (List Value) w own pc code (v ∷ stack) f (StraightWhere (List Value) w own (λ vs. count ≡ length vs) (λ vs. onto vs (v ∷ stack)))
       → Runs (List Value) w own pc code (v ∷ stack) (λ s. bind (f s) (λ vs x. Done (v ∷ vs) x))
       (StraightWhere (List Value) w own (λ vs. suc count ≡ length vs) (λ vs. onto vs stack))
-  one_more v count {pc} {code} {stack} {f} others = record { runs = λ h fin e s k go.
-      subst (λ p. PlaysIn w p (frame pc (v ∷ stack) own) s) (sym (bind_assoc (f s) (λ vs x. Done (v ∷ vs) x) k))
-      (others.runs h fin e s (λ vs x. k (v ∷ vs) x) (λ vs x. record { plays = λ c. (go (v ∷ vs) x).plays (ap (λ j. suc j) c) })) }
+  one_more v count {pc} {code} {stack} {f} others = record {
+    runs = λ h fin e s k go.
+        subst (λ p. PlaysIn w p (frame pc (v ∷ stack) own) s) (sym (bind_assoc (f s) (λ vs x. Done (v ∷ vs) x) k))
+        (others.runs h fin e s (λ vs x. k (v ∷ vs) x) (λ vs x. record { plays = λ c. (go (v ∷ vs) x).plays (ap (λ j. suc j) c) }));
+  }
 
   -- EXPRESSIONS
 

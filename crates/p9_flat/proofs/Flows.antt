@@ -47,24 +47,30 @@ module _ (w : World) (own : Own) where
   pub going_on : {pc : ℕ} {code : List Op} {stack : List Value} {f : State → Play (Unit {0})} {ends : Ends}
       → Runs (Unit {0}) w own pc code stack f (Straight (Unit {0}) w own (λ done. stack))
       → Runs Flow w own pc code stack (λ s. bind (f s) (λ done t. Done Normal t)) (Goes w own ends stack)
-  going_on {pc} {code} {stack} {f} {ends} runs = record { runs = λ h fin e s k go.
-      subst (λ p. PlaysIn w p (frame pc stack own) s) (sym (bind_assoc (f s) (λ done t. Done Normal t) k))
-      (runs.runs h fin e s (λ done t. k Normal t) (λ done t. record { plays = (go Normal t).goes })) }
+  going_on {pc} {code} {stack} {f} {ends} runs = record {
+    runs = λ h fin e s k go.
+        subst (λ p. PlaysIn w p (frame pc stack own) s) (sym (bind_assoc (f s) (λ done t. Done Normal t) k))
+        (runs.runs h fin e s (λ done t. k Normal t) (λ done t. record { plays = (go Normal t).goes }));
+  }
 
   pub normal : {pc : ℕ} {stack : List Value} {ends : Ends} → Runs Flow w own pc [] stack (λ s. Done Normal s) (Goes w own ends stack)
-  normal {pc} {stack} {ends} = record { runs = λ h fin e s k go.
-      subst (λ m. PlaysIn w (k Normal s) (frame m stack own) s) (omega (arith, e)) (go Normal s).goes }
+  normal {pc} {stack} {ends} = record {
+    runs = λ h fin e s k go.
+        subst (λ m. PlaysIn w (k Normal s) (frame m stack own) s) (omega (arith, e)) (go Normal s).goes;
+  }
 
   -- statements one behind the other
   pub then_runs : {pc : ℕ} {first rest : List Op} {stack : List Value} {f g : State → Play Flow} {ends : Ends}
       → Runs Flow w own pc first stack f (Goes w own ends stack) → Runs Flow w own (pc + length first) rest stack g (Goes w own ends stack)
       → Runs Flow w own pc (first ++ rest) stack (λ s. bind (f s) (λ flow t. then_go flow t g)) (Goes w own ends stack)
-  then_runs {pc} {first} {rest} {stack} {f} {g} {ends} one two = record { runs = λ h fin e s k go.
-      let l = length-append first rest in
-      let second = has_second w.all pc first rest (pc + length first) refl h in
-      subst (λ p. PlaysIn w p (frame pc stack own) s) (sym (bind_assoc (f s) (λ flow t. then_go flow t g) k))
-      (one.runs (has_first w.all pc first rest h) (pc + length first) refl s (λ flow t. bind (then_go flow t g) k)
-      (next fin k go (λ t. two.runs second fin (omega (arith, e, l)) t k go))) }
+  then_runs {pc} {first} {rest} {stack} {f} {g} {ends} one two = record {
+    runs = λ h fin e s k go.
+        let l = length-append first rest in
+        let second = has_second w.all pc first rest (pc + length first) refl h in
+        subst (λ p. PlaysIn w p (frame pc stack own) s) (sym (bind_assoc (f s) (λ flow t. then_go flow t g) k))
+        (one.runs (has_first w.all pc first rest h) (pc + length first) refl s (λ flow t. bind (then_go flow t g) k)
+        (next fin k go (λ t. two.runs second fin (omega (arith, e, l)) t k go)));
+  }
     where
       next : (fin : ℕ) (k : Flow → State → Play Value) → ((flow : Flow) (t : State) → Goes w own ends stack fin flow (k flow t) t)
           → ((t : State) → PlaysIn w (bind (g t) k) (frame (pc + length first) stack own) t)
@@ -81,10 +87,12 @@ module _ (w : World) (own : Own) where
   branch_by : (o : Option Bool) (pc here otherwise : ℕ) (v : Value) (stack : List Value)
       → Runs Bool w own pc (branch_code o here otherwise) (v ∷ stack) (λ s. test_by w own o (place_of own here) v s) (Branches w own stack otherwise)
   branch_by None pc here otherwise v stack = Rattle.p9_flat.proofs.Runs.lacking_of v
-  branch_by (Some of_pointer) pc here otherwise v stack = record { runs = λ h fin e s k go.
-      branching w own pc here otherwise of_pointer v stack s k h.0
-      (λ t. subst (λ m. PlaysIn w (k true t) (frame m stack own) t) (omega (arith, e)) (go true t).goes)
-      (λ t. (go false t).goes) }
+  branch_by (Some of_pointer) pc here otherwise v stack = record {
+    runs = λ h fin e s k go.
+        branching w own pc here otherwise of_pointer v stack s k h.0
+        (λ t. subst (λ m. PlaysIn w (k true t) (frame m stack own) t) (omega (arith, e)) (go true t).goes)
+        (λ t. (go false t).goes);
+  }
 
   pub branch_runs : (type : TypeTree) (pc here otherwise : ℕ) (v : Value) (stack : List Value)
       → Runs Bool w own pc (branch_code (tests type) here otherwise) (v ∷ stack) (λ s. test_at (place_of own here) type v s) (Branches w own stack otherwise)
@@ -93,21 +101,25 @@ module _ (w : World) (own : Own) where
       (branch_by (tests type) pc here otherwise v stack)
 
   pub always_runs : (pc otherwise : ℕ) (stack : List Value) → Runs Bool w own pc [] stack (λ s. Done true s) (Branches w own stack otherwise)
-  always_runs pc otherwise stack = record { runs = λ h fin e s k go.
-      subst (λ m. PlaysIn w (k true s) (frame m stack own) s) (omega (arith, e)) (go true s).goes }
+  always_runs pc otherwise stack = record {
+    runs = λ h fin e s k go.
+        subst (λ m. PlaysIn w (k true s) (frame m stack own) s) (omega (arith, e)) (go true s).goes;
+  }
 
   guarding : (o : Option Bool) (pc here : ℕ) (first : ℕ → List Op) (v : Value) (stack : List Value) (p : State → Play Flow) (ends : Ends)
       → ((n : ℕ) → Runs Flow w own n (first n) stack p (Goes w own ends stack))
       → Runs Flow w own pc (if_code o here pc first) (v ∷ stack)
       (λ s. bind (test_by w own o (place_of own here) v s) (λ holds t. if holds then p t else Done Normal t)) (Goes w own ends stack)
   guarding None pc here first v stack p ends one = lacking_test w own pc here v stack (λ holds t. if holds then p t else Done Normal t) (Goes w own ends stack)
-  guarding (Some of_pointer) pc here first v stack p ends one = record { runs = λ h fin e s k go.
-      let same : fin ≡ suc pc + length (first (suc pc)) = omega (arith, e) in
-      subst (λ r. PlaysIn w r (frame pc (v ∷ stack) own) s)
-      (sym (bind_assoc (test_by w own (Some of_pointer) (place_of own here) v s) (λ holds t. if holds then p t else Done Normal t) k))
-      (branching w own pc here (suc pc + length (first (suc pc))) of_pointer v stack s (λ holds t. bind (if holds then p t else Done Normal t) k) h.0
-      (λ t. (one (suc pc)).runs h.1 fin same t k go)
-      (λ t. subst (λ m. PlaysIn w (k Normal t) (frame m stack own) t) same (go Normal t).goes)) }
+  guarding (Some of_pointer) pc here first v stack p ends one = record {
+    runs = λ h fin e s k go.
+        let same : fin ≡ suc pc + length (first (suc pc)) = omega (arith, e) in
+        subst (λ r. PlaysIn w r (frame pc (v ∷ stack) own) s)
+        (sym (bind_assoc (test_by w own (Some of_pointer) (place_of own here) v s) (λ holds t. if holds then p t else Done Normal t) k))
+        (branching w own pc here (suc pc + length (first (suc pc))) of_pointer v stack s (λ holds t. bind (if holds then p t else Done Normal t) k) h.0
+        (λ t. (one (suc pc)).runs h.1 fin same t k go)
+        (λ t. subst (λ m. PlaysIn w (k Normal t) (frame m stack own) t) same (go Normal t).goes));
+  }
 
   pub guard_runs : (type : TypeTree) (pc here : ℕ) (first : ℕ → List Op) (v : Value) (stack : List Value) (p : State → Play Flow) (ends : Ends)
       → ((n : ℕ) → Runs Flow w own n (first n) stack p (Goes w own ends stack))
@@ -148,7 +160,7 @@ module _ (w : World) (own : Own) where
         turn_stands = two.0;
         body_stands = has_first w.all (suc (suc (suc pc) + length step_part + length test_part)) body_part (op.Jump (suc (suc pc)) ∷ []) two.1;
         back = (has_second w.all (suc (suc (suc pc) + length step_part + length test_part)) body_part (op.Jump (suc (suc pc)) ∷ [])
-        (suc (suc (suc pc) + length step_part + length test_part) + length body_part) refl two.1).0;
+            (suc (suc (suc pc) + length step_part + length test_part) + length body_part) refl two.1).0;
       }
 
   -- what follows a run of the body
@@ -219,19 +231,23 @@ module _ (w : World) (own : Own) where
   pub tested_runs : (turns pc : ℕ) (step_part test_part body_part : List Op) (stack : List Value) (ends : Ends) (loop : Loop)
       → LoopRuns pc step_part test_part body_part stack ends loop
       → Runs Flow w own pc (turning true pc step_part test_part body_part) stack (λ s. tested_loop turns loop s) (Goes w own ends stack)
-  tested_runs turns pc step_part test_part body_part stack ends loop runs = record { runs = λ h fin e s k go.
-      let stands = loop_stands true pc step_part test_part body_part h in
-      let land : (flow : Flow) (t : State) → Goes w own ends stack (suc (suc (suc (suc pc) + length step_part + length test_part + length body_part))) flow (k flow t) t = λ flow t. subst (λ m. Goes w own ends stack m flow (k flow t) t) (loop_length true pc fin step_part test_part body_part e) (go flow t) in
-      by_jump w own (bind (tested_loop turns loop s) k) pc (suc (suc pc) + length step_part) stack s h.0
-      (test_plays pc step_part test_part body_part stack ends loop runs stands k land turns
-      (turn_plays pc step_part test_part body_part stack ends loop runs stands k land turns) s) }
+  tested_runs turns pc step_part test_part body_part stack ends loop runs = record {
+    runs = λ h fin e s k go.
+        let stands = loop_stands true pc step_part test_part body_part h in
+        let land : (flow : Flow) (t : State) → Goes w own ends stack (suc (suc (suc (suc pc) + length step_part + length test_part + length body_part))) flow (k flow t) t = λ flow t. subst (λ m. Goes w own ends stack m flow (k flow t) t) (loop_length true pc fin step_part test_part body_part e) (go flow t) in
+        by_jump w own (bind (tested_loop turns loop s) k) pc (suc (suc pc) + length step_part) stack s h.0
+        (test_plays pc step_part test_part body_part stack ends loop runs stands k land turns
+        (turn_plays pc step_part test_part body_part stack ends loop runs stands k land turns) s);
+  }
 
   -- and one that doesn't
   pub untested_runs : (turns pc : ℕ) (step_part test_part body_part : List Op) (stack : List Value) (ends : Ends) (loop : Loop)
       → LoopRuns pc step_part test_part body_part stack ends loop
       → Runs Flow w own pc (turning false pc step_part test_part body_part) stack (λ s. turn_of turns loop s) (Goes w own ends stack)
-  untested_runs turns pc step_part test_part body_part stack ends loop runs = record { runs = λ h fin e s k go.
-      let stands = loop_stands false pc step_part test_part body_part h in
-      by_jump w own (bind (turn_of turns loop s) k) pc (suc (suc pc) + length step_part + length test_part) stack s h.0
-      (turn_plays pc step_part test_part body_part stack ends loop runs stands k
-      (λ flow t. subst (λ m. Goes w own ends stack m flow (k flow t) t) (loop_length false pc fin step_part test_part body_part e) (go flow t)) turns s) }
+  untested_runs turns pc step_part test_part body_part stack ends loop runs = record {
+    runs = λ h fin e s k go.
+        let stands = loop_stands false pc step_part test_part body_part h in
+        by_jump w own (bind (turn_of turns loop s) k) pc (suc (suc pc) + length step_part + length test_part) stack s h.0
+        (turn_plays pc step_part test_part body_part stack ends loop runs stands k
+        (λ flow t. subst (λ m. Goes w own ends stack m flow (k flow t) t) (loop_length false pc fin step_part test_part body_part e) (go flow t)) turns s);
+  }

@@ -104,8 +104,10 @@ module _ (w : World) (numbers : Numbers) (around : Surroundings) (named : AreNam
 
   returning : (i : Inside) (ends : Ends) (pc : ℕ) (v : Value) (stack : List Value)
       → Runs Flow w (own_in i) pc (op.Jump ends.returned ∷ []) (v ∷ stack) (λ s. Done (Returned (Some v)) s) (Goes w (own_in i) ends stack)
-  returning i ends pc v stack = record { runs = λ h fin e s k go.
-      by_jump w (own_in i) (k (Returned (Some v)) s) pc ends.returned (v ∷ stack) s h.0 (go (Returned (Some v)) s).goes }
+  returning i ends pc v stack = record {
+    runs = λ h fin e s k go.
+        by_jump w (own_in i) (k (Returned (Some v)) s) pc ends.returned (v ∷ stack) s h.0 (go (Returned (Some v)) s).goes;
+  }
 
   breaking : (i : Inside) (ends : Ends) (pc : ℕ) (stack : List Value)
       → Runs Flow w (own_in i) pc (op.Jump ends.broke ∷ []) stack (λ s. Done Broke s) (Goes w (own_in i) ends stack)
@@ -117,9 +119,11 @@ module _ (w : World) (numbers : Numbers) (around : Surroundings) (named : AreNam
 
   giving_nothing : (i : Inside) (ends : Ends) (pc : ℕ) (stack : List Value)
       → Runs Flow w (own_in i) pc (op.Nothing ∷ op.Jump ends.returned ∷ []) stack (λ s. Done (Returned None) s) (Goes w (own_in i) ends stack)
-  giving_nothing i ends pc stack = record { runs = λ h fin e s k go.
-      by_next w.names w.all w.below (k (Returned None) s) (frame pc stack (own_in i)) (frame (suc pc) (Missing call ∷ stack) (own_in i)) s s op.Nothing h.0 refl
-      (by_jump w (own_in i) (k (Returned None) s) (suc pc) ends.returned (Missing call ∷ stack) s h.1.0 (go (Returned None) s).goes) }
+  giving_nothing i ends pc stack = record {
+    runs = λ h fin e s k go.
+        by_next w.names w.all w.below (k (Returned None) s) (frame pc stack (own_in i)) (frame (suc pc) (Missing call ∷ stack) (own_in i)) s s op.Nothing h.0 refl
+        (by_jump w (own_in i) (k (Returned None) s) (suc pc) ends.returned (Missing call ∷ stack) s h.1.0 (go (Returned None) s).goes);
+  }
 
   -- BLOCKS
 
@@ -177,27 +181,29 @@ module _ (w : World) (numbers : Numbers) (around : Surroundings) (named : AreNam
       along (λ s. does (now_in i) s)
       (λ s. bind_done (does (now_in i) (entered (now_in i) [] s)) ∙ ap (λ l. does (now_in i) (record s { objects = l })) (append-nil s.objects))
       (runs i ends pc stack)
-  block_runs (d ∷ ds) body does runs i ends pc stack = record { runs = λ h fin e s k go.
-      let first : List Op = makes around.tags (d ∷ ds) in
-      let m : ℕ = pc + length first in
-      let inner : Inside = inner_of i (d ∷ ds) s in
-      let code : List Op = body (setting_in inner) (ends_at (suc m)) (body_at (suc m)) in
-      let stop : ℕ = body_at (suc m) + length code in
-      let frame_part : List Op = left_body (setting_in i) ends m code in
-      let l = length-append first frame_part in
-      let n = length-append code (op.Leave i.alive ∷ []) in
-      let same : fin ≡ suc stop = omega (arith, e, l, n) in
-      let rest = has_second w.all pc first frame_part m refl h in
-      let body_stands = rest.1.1.1.1.1.1.1 in
-      making w around call around.tags (d ∷ ds) i.automatics pc m stack s _ (has_first w.all pc first frame_part h) refl
-      (by_jump w (own_in inner) _ m (body_at (suc m)) stack (entered (now_in i) (d ∷ ds) s) rest.0
-      (subst (λ p. PlaysIn w p (frame (body_at (suc m)) stack (own_in inner)) (entered (now_in i) (d ∷ ds) s))
-      (sym (bind_assoc (does (now_in inner) (entered (now_in i) (d ∷ ds) s)) (λ flow t. Done flow (left (living_in (d ∷ ds) s) t)) k))
-      ((runs inner (ends_at (suc m)) (body_at (suc m)) stack).runs (has_first w.all (body_at (suc m)) code (op.Leave i.alive ∷ []) body_stands) stop refl
-      (entered (now_in i) (d ∷ ds) s) (λ flow t. k flow (left (living_in (d ∷ ds) s) t))
-      (leaving i (d ∷ ds) ends (length s.objects) (suc m) stop stack k (has_first w.all (suc m) (exits ends i.alive) (code ++ op.Leave i.alive ∷ []) rest.1)
-      (has_second w.all (body_at (suc m)) code (op.Leave i.alive ∷ []) stop refl body_stands).0
-      (λ flow t. subst (λ j. Goes w (own_in i) ends stack j flow (k flow t) t) same (go flow t)))))) }
+  block_runs (d ∷ ds) body does runs i ends pc stack = record {
+    runs = λ h fin e s k go.
+        let first : List Op = makes around.tags (d ∷ ds) in
+        let m : ℕ = pc + length first in
+        let inner : Inside = inner_of i (d ∷ ds) s in
+        let code : List Op = body (setting_in inner) (ends_at (suc m)) (body_at (suc m)) in
+        let stop : ℕ = body_at (suc m) + length code in
+        let frame_part : List Op = left_body (setting_in i) ends m code in
+        let l = length-append first frame_part in
+        let n = length-append code (op.Leave i.alive ∷ []) in
+        let same : fin ≡ suc stop = omega (arith, e, l, n) in
+        let rest = has_second w.all pc first frame_part m refl h in
+        let body_stands = rest.1.1.1.1.1.1.1 in
+        making w around call around.tags (d ∷ ds) i.automatics pc m stack s _ (has_first w.all pc first frame_part h) refl
+        (by_jump w (own_in inner) _ m (body_at (suc m)) stack (entered (now_in i) (d ∷ ds) s) rest.0
+        (subst (λ p. PlaysIn w p (frame (body_at (suc m)) stack (own_in inner)) (entered (now_in i) (d ∷ ds) s))
+        (sym (bind_assoc (does (now_in inner) (entered (now_in i) (d ∷ ds) s)) (λ flow t. Done flow (left (living_in (d ∷ ds) s) t)) k))
+        ((runs inner (ends_at (suc m)) (body_at (suc m)) stack).runs (has_first w.all (body_at (suc m)) code (op.Leave i.alive ∷ []) body_stands) stop refl
+        (entered (now_in i) (d ∷ ds) s) (λ flow t. k flow (left (living_in (d ∷ ds) s) t))
+        (leaving i (d ∷ ds) ends (length s.objects) (suc m) stop stack k (has_first w.all (suc m) (exits ends i.alive) (code ++ op.Leave i.alive ∷ []) rest.1)
+        (has_second w.all (body_at (suc m)) code (op.Leave i.alive ∷ []) stop refl body_stands).0
+        (λ flow t. subst (λ j. Goes w (own_in i) ends stack j flow (k flow t) t) same (go flow t))))));
+  }
 
   -- SWITCHES
 
@@ -274,21 +280,27 @@ module _ (w : World) (numbers : Numbers) (around : Surroundings) (named : AreNam
     switch_runs : (HasAt w.all (suc (suc (suc pc))) arms_code → ArmsRun) → (v : Value)
         → Runs Flow w (own_in i) pc (switching here pc arms_code labels_part default_part) (v ∷ stack)
         (λ t. switched (place_of (own_in i) here) v t (λ word. run_from (entry_of around.tags word arms) run_arms t)) (Goes w (own_in i) ends stack)
-    switch_runs runs (Word n) = record { runs = λ h fin e s k go.
-        let tail : List Op = labels_part ++ op.Pop ∷ op.Jump default_part ∷ [] in
-        let l = length-append arms_code (op.Jump (suc (suc pc)) ∷ tail) in
-        let m = length-append labels_part (op.Pop ∷ op.Jump default_part ∷ []) in
-        let same : fin ≡ out_at = omega (arith, e, l, m) in
-        let rest = has_second w.all (suc (suc (suc pc))) arms_code (op.Jump (suc (suc pc)) ∷ tail) (suc (suc (suc pc)) + length arms_code) refl h.1.1.1 in
-        by_next w.names w.all w.below (bind (run_from (entry_of around.tags n arms) run_arms s) k) (frame pc (Word n ∷ stack) (own_in i)) (frame (suc pc) (Word n ∷ stack) (own_in i)) s s
-        (op.Narrow scalar.Word here) h.0 refl
-        (by_jump w (own_in i) (bind (run_from (entry_of around.tags n arms) run_arms s) k) (suc pc) labels_at (Word n ∷ stack) s h.1.0
-        (from_labels h.1.1.0 rest.0 (runs (has_first w.all (suc (suc (suc pc))) arms_code (op.Jump (suc (suc pc)) ∷ tail) h.1.1.1)) k
-        (λ flow t. subst (λ j. Goes w (own_in i) ends stack j flow (k flow t) t) same (go flow t)) n s rest.1)) }
-    switch_runs runs (Address p) = record { runs = λ h fin e s k go.
-        by_fails w.names w.all w.below cause.Mixed (place_of (own_in i) here) (frame pc (Address p ∷ stack) (own_in i)) s s (op.Narrow scalar.Word here) h.0 refl }
-    switch_runs runs (Missing there) = record { runs = λ h fin e s k go.
-        by_fails w.names w.all w.below cause.NoValue there (frame pc (Missing there ∷ stack) (own_in i)) s s (op.Narrow scalar.Word here) h.0 refl }
+    switch_runs runs (Word n) = record {
+      runs = λ h fin e s k go.
+          let tail : List Op = labels_part ++ op.Pop ∷ op.Jump default_part ∷ [] in
+          let l = length-append arms_code (op.Jump (suc (suc pc)) ∷ tail) in
+          let m = length-append labels_part (op.Pop ∷ op.Jump default_part ∷ []) in
+          let same : fin ≡ out_at = omega (arith, e, l, m) in
+          let rest = has_second w.all (suc (suc (suc pc))) arms_code (op.Jump (suc (suc pc)) ∷ tail) (suc (suc (suc pc)) + length arms_code) refl h.1.1.1 in
+          by_next w.names w.all w.below (bind (run_from (entry_of around.tags n arms) run_arms s) k) (frame pc (Word n ∷ stack) (own_in i)) (frame (suc pc) (Word n ∷ stack) (own_in i)) s s
+          (op.Narrow scalar.Word here) h.0 refl
+          (by_jump w (own_in i) (bind (run_from (entry_of around.tags n arms) run_arms s) k) (suc pc) labels_at (Word n ∷ stack) s h.1.0
+          (from_labels h.1.1.0 rest.0 (runs (has_first w.all (suc (suc (suc pc))) arms_code (op.Jump (suc (suc pc)) ∷ tail) h.1.1.1)) k
+          (λ flow t. subst (λ j. Goes w (own_in i) ends stack j flow (k flow t) t) same (go flow t)) n s rest.1));
+    }
+    switch_runs runs (Address p) = record {
+      runs = λ h fin e s k go.
+          by_fails w.names w.all w.below cause.Mixed (place_of (own_in i) here) (frame pc (Address p ∷ stack) (own_in i)) s s (op.Narrow scalar.Word here) h.0 refl;
+    }
+    switch_runs runs (Missing there) = record {
+      runs = λ h fin e s k go.
+          by_fails w.names w.all w.below cause.NoValue there (frame pc (Missing there ∷ stack) (own_in i)) s s (op.Narrow scalar.Word here) h.0 refl;
+    }
 
   -- STATEMENTS
 

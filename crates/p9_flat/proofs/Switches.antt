@@ -35,9 +35,11 @@ default_is setting ends (more first others) pc otherwise =
   where
     next : ℕ
     next = pc + length (statement_code setting ends pc first)
+
     later : (o : Option ℕ) → arm_or setting ends next otherwise others o ≡ arm_or setting ends pc otherwise (more first others) (option_map suc o)
     later None = refl
     later (Some n) = refl
+
     by : (b : Bool) → default_at setting ends next otherwise others ≡ arm_or setting ends next otherwise others (parts_before is_default others)
         → (if b then pc else default_at setting ends next otherwise others)
         ≡ arm_or setting ends pc otherwise (more first others) (if b then Some 0 else option_map suc (parts_before is_default others))

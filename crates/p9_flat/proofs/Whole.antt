@@ -95,9 +95,11 @@ module _ (w : World) (around : Surroundings) (call : Place) (ds : List Declared)
       (by_lacks w.names w.all w.below call (frame (suc (suc (suc pc))) w.below (own_of around [] call)) (dead t) (dead t) op.Stray stray refl)
 
   ending : (flow : Flow) (t : State) → Goes w inside (function_ends pc) w.below stop flow (given call flow (dead t)) t
-  ending Normal t = record { goes =
-      by_next w.names w.all w.below (Done (Missing call) (dead t)) (frame stop w.below inside) (frame (suc stop) (Missing call ∷ w.below) inside) t t op.Nothing nothing refl
-      (by_jump w inside (Done (Missing call) (dead t)) (suc stop) pc (Missing call ∷ w.below) t back (gives (Missing call) t)) }
+  ending Normal t = record {
+    goes =
+        by_next w.names w.all w.below (Done (Missing call) (dead t)) (frame stop w.below inside) (frame (suc stop) (Missing call ∷ w.below) inside) t t op.Nothing nothing refl
+        (by_jump w inside (Done (Missing call) (dead t)) (suc stop) pc (Missing call ∷ w.below) t back (gives (Missing call) t));
+  }
   ending Broke t = record { goes = astray t }
   ending Continued t = record { goes = astray t }
   ending (Returned None) t = record { goes = gives (Missing call) t }
