@@ -1,0 +1,11 @@
+pub mod Playing
+pub mod Runs
+pub mod Resolving
+pub mod Accesses
+pub mod Naming
+pub mod Exprs
+pub mod Blocks
+pub mod Flows
+pub mod Switches
+pub mod Stmts
+pub mod Whole

@@ -1,0 +1,5 @@
+pub mod Resolved
+pub mod Step
+pub mod Code
+pub mod Flat
+pub mod Laws

@@ -1,0 +1,10 @@
+//! Linear code of functions: a list of simple operations over a stack of values. The definitions in
+//! `specs/` say what each operation does and which code a function has; a law says that the code plays
+//! what the function means.
+#![tactic(auto)]
+
+mod laws;
+mod op;
+
+pub use laws::code_is_right;
+pub use op::{Op, Operation, Scalar};
