@@ -9,3 +9,4 @@ pub mod Flows
 pub mod Switches
 pub mod Stmts
 pub mod Whole
+pub mod Keeping

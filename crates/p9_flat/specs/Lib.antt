@@ -3,3 +3,4 @@ pub mod Step
 pub mod Code
 pub mod Flat
 pub mod Laws
+pub mod Machine

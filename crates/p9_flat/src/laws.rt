@@ -1,9 +1,17 @@
 // Laws of the definitions in `specs/`. Each function does nothing; its contract is the law.
 ghost use Rattle.p9_flat.specs.Laws.{CodeIsRight};
+ghost use Rattle.p9_flat.specs.Machine.{MachineIsRight};
 
 /// The code of a function plays what the function's body does, wherever it stands and with any arguments.
 /// What has no meaning in the source has none in the code, at the same node.
 #[tactic(auto, using(crate::proofs::Whole::code_is_right))]
 pub fn code_is_right()
     ensures { CodeIsRight }
+{}
+
+/// Each step of the machine keeps what its run comes to, or stops with it, over a table whose functions'
+/// code plays their bodies.
+#[tactic(auto, using(crate::proofs::Keeping::machine_is_right))]
+pub fn machine_is_right()
+    ensures { MachineIsRight }
 {}
