@@ -1,25 +1,25 @@
 -- What a part means to its node changes only nodes that wait.
-use Rattle.std.proofs.Common.{◌≡◌, ℕ, zero, suc, ◌+◌, ◌-◌, Bool, true, false, ◌==◌, if◌then◌else◌, List, [], ◌∷◌, ◌++◌, length, slice_get, slice_set, reverse, map, Option, Some, None, Result, Ok, Err, refl, sym, ap, subst, ◌∙◌, arith}
+use Rattle.std.proofs.Common.{◌≡◌, ℕ, zero, suc, ◌+◌, ◌-◌, Bool, true, false, if◌then◌else◌, ◌==◌, List, [], ◌∷◌, ◌++◌, length, slice_get, slice_set, reverse, map, Option, Some, None, Result, Ok, Err, refl, sym, ap, subst, ◌∙◌, arith}
 use Rattle.std.specs.List.{list_all}
 use Rattle.std.proofs.lemmas.List.{length-set}
 use Rattle.p9_lang.specs.Names.{is_nameless}
 use Rattle.p9_lang.specs.declared.tree.Kind.{Kind}
 use Rattle.p9_lang.specs.declared.tree.Kind.TheVariants as kind
 use Rattle.p9_lang.specs.Trees.{SyntaxRow}
-use Rattle.p9_lang.specs.Types.{TypeTree, Void, Int, Array, Meant, MemberTree, Tags}
+use Rattle.p9_lang.specs.Types.{TypeTree, Void, Array, Meant, MemberTree, Tags}
 use Rattle.p9_lang.specs.Rules.{Rule, Malformed, Redeclared, at_node, Broken, unless, and_then}
-use Rattle.p9_lang.specs.Scopes.{Known, Keyword, TagName, Tagging, tag_from, known_tag, new_tag, new_structure, tagged_as, next_node, in_level, innermost, around, Enum}
+use Rattle.p9_lang.specs.Scopes.{Known, Keyword, TagName, Tagging, tag_from, known_tag, new_tag, new_structure, tagged_as, in_level, innermost, around, Enum}
 use Rattle.p9_lang.specs.Declarators.{LengthBy, Step, Head, Storage, NameNode, Words, Named, Structure, Enumeration, head_of, storage_of, closed, closed_from, shaped, broken_at, makes_no_type, with_length, adjusted, name_of, naming_rules, ByNothing, ByCaller, Declaring}
-use Rattle.p9_lang.specs.Parts.{Role, Context, Part, Value, Declarator, Object, Members, Enumerator, Parameter, NamedType, Braced, Filled, CaseLabel, Statement, DefaultLabel, Frame, Judged, object_type, last_object, name_in, object_role, object_names, members_in, Plain, follows, length_by}
+use Rattle.p9_lang.specs.Parts.{Context, Part, Value, Declarator, Object, Members, Enumerator, Parameter, NamedType, Braced, Filled, CaseLabel, Statement, DefaultLabel, Frame, Judged, object_type, last_object, name_in, object_role, object_names, members_in, Plain, follows, length_by}
 use Rattle.p9_lang.specs.Constants.{Constant}
 use Rattle.p9_lang.specs.Opening.{opened, of_head}
 use Rattle.p9_lang.specs.Declaring.{broken_rules, behind, last_node, named_with, declare_object, declare_as, with_body_open, open_body, parameter_count, declare_member, declare_parameter, parameter_meaning, parameter_rules, declared_parameter, member_rules, names_in_braces, initialiser_role, declared_meaning, close_type, declared, function_declaring, object_declaring, enumerated, enumerator_value, constant_meaning, complete_if, with_members, with_length_given, with_given_length, length_rules, declared_before, unless_broken, initialiser_rules, given_length, retyped, initialised}
-use Rattle.p9_lang.specs.Entries.{entry_role, is_index_next}
+use Rattle.p9_lang.specs.Entries.{is_index_next}
 use Rattle.p9_lang.proofs.Growing.{Grows, stays, appended_grows, body_grows}
 use Rattle.p9_lang.proofs.Counting.{then_of, unless_of}
 use Rattle.p9_sound.specs.Labels.{IsShut, AreKnown}
-use Rattle.p9_sound.proofs.Numbering.{get_apart, extends_self, IsOpen, apart, AreOpen, steps_reverse, steps_with_length, name_open}
-use Rattle.p9_sound.proofs.Staying.{Stays, still, then_stays, Alike, Fits, HasOpen, AllHaveOpen, ObjectOpen, last_object_open}
+use Rattle.p9_sound.proofs.Numbering.{get_apart, IsOpen, apart, AreOpen, steps_reverse, steps_with_length, name_open}
+use Rattle.p9_sound.proofs.Staying.{Stays, still, Alike, Fits, HasOpen, AllHaveOpen, ObjectOpen, last_object_open}
 
 -- OPENING a node
 
@@ -178,10 +178,10 @@ object_holds kinds d by base steps (Some name) s h o e =
     ))
     o
     (λ made r.
-        let z = named_node kinds s (declare_as d name made.0 (record s { types = made.1 })) made.1 name.number
-        (declared_meaning d name made.0 (record s { types = made.1 })) h r (name_open kinds steps name o e) refl refl refl in
-        ok_holds kinds s (declare_as d name made.0 (record s { types = made.1 }))
-        (Object made.0 steps (last_node s) (initialiser_role d made.0)) z.0 z.1 o)
+    let z = named_node kinds s (declare_as d name made.0 (record s { types = made.1 })) made.1 name.number
+    (declared_meaning d name made.0 (record s { types = made.1 })) h r (name_open kinds steps name o e) refl refl refl in
+    ok_holds kinds s (declare_as d name made.0 (record s { types = made.1 }))
+    (Object made.0 steps (last_node s) (initialiser_role d made.0)) z.0 z.1 o)
 
 body_holds : (kinds : List Kind) (steps : List Step) (s : Known) (x : Part × Known) → Holds kinds s x → Holding kinds s (with_body_open steps x)
 body_holds kinds steps s x h =
@@ -224,10 +224,10 @@ parameter_holds kinds f steps (Some name) s h o e =
     closing_holds kinds s (λ type. parameter_rules name.name (in_level name.name (innermost s.names))) ByCaller f.base steps
     (λ made. Ok (Object (adjusted made.0) steps (last_node s) Plain, declared_parameter f name made s)) o
     (λ made r.
-        let m = name_open kinds steps name o e in
-        let z = named_node kinds s (declared_parameter f name made s) (slice_set made.1 name.number (adjusted made.0)) name.number
-        (parameter_meaning f.context.role) h (parameter_retypes kinds s.types made.1 name.number (adjusted made.0) r m) m refl refl refl in
-        ok_holds kinds s (declared_parameter f name made s) (Object (adjusted made.0) steps (last_node s) Plain) z.0 z.1 o)
+    let m = name_open kinds steps name o e in
+    let z = named_node kinds s (declared_parameter f name made s) (slice_set made.1 name.number (adjusted made.0)) name.number
+    (parameter_meaning f.context.role) h (parameter_retypes kinds s.types made.1 name.number (adjusted made.0) r m) m refl refl refl in
+    ok_holds kinds s (declared_parameter f name made s) (Object (adjusted made.0) steps (last_node s) Plain) z.0 z.1 o)
 
 type_holds : (kinds : List Kind) (f : Frame) (steps : List Step) (s : Known) → AreKnown kinds s → AreOpen kinds steps
     → Holding kinds s (close_type f steps s)

@@ -1,16 +1,16 @@
 -- The recursion of typing: labels stay.
-use Rattle.std.proofs.Common.{◌≡◌, ℕ, suc, ◌+◌, Bool, true, false, ◌==◌, if◌then◌else◌, List, [], ◌∷◌, ◌++◌, length, Result, Ok, Err, refl, sym, ap, subst}
+use Rattle.std.proofs.Common.{◌≡◌, ℕ, ◌+◌, Bool, true, false, if◌then◌else◌, ◌==◌, List, [], ◌∷◌, ◌++◌, Ok, Err, ap, subst}
 use Rattle.p9_lang.specs.declared.tree.Kind.{Kind}
 use Rattle.p9_lang.specs.Trees.{node, none, more, Syntax, SyntaxRow}
-use Rattle.p9_lang.specs.Rules.{Rule, Broken, and_then, first_of}
+use Rattle.p9_lang.specs.Rules.{Rule, and_then, first_of}
 use Rattle.p9_lang.specs.Scopes.{Known}
 use Rattle.p9_lang.specs.Parts.{Context, Part, Frame, Judged, kind_at}
 use Rattle.p9_lang.specs.Opening.{opened, context}
 use Rattle.p9_lang.specs.Declaring.{broken_rules, behind}
-use Rattle.p9_lang.specs.Typing.{judged, judge, judge_parts, role_rules, with_rules}
+use Rattle.p9_lang.specs.Typing.{judge, judge_parts, role_rules, with_rules}
 use Rattle.p9_lang.proofs.Counting.{then_of, unless_of}
 use Rattle.p9_sound.specs.Labels.{AreKnown, LabelsStay}
-use Rattle.p9_sound.proofs.Numbering.{kinds_after, kinds_after_row, root, root_last, Extends, extends_self, extends_tree, extends_row}
+use Rattle.p9_sound.proofs.Numbering.{kinds_after, kinds_after_row, root, root_last, extends_self, extends_tree, extends_row}
 use Rattle.p9_sound.proofs.Staying.{Stays, still, then_stays, alike_known, alike_stays, Fits, AllHaveOpen, all_open_later, one_open_more, judged_adds}
 use Rattle.p9_sound.proofs.Closing.{opened_alike, behind_holds}
 

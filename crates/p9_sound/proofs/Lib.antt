@@ -2,5 +2,3 @@ pub mod Numbering
 pub mod Staying
 pub mod Closing
 pub mod Labels
-pub mod Ending
-pub mod Operands

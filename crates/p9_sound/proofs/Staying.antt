@@ -1,28 +1,23 @@
 -- Behind a node that is typed, the nodes before it have their types and meanings still, but for those
 -- that wait; and structures keep their bodies.
-use Rattle.std.proofs.Common.{◌≡◌, ◌<◌, ℕ, zero, suc, ◌+◌, ◌-◌, Bool, true, false, ◌==◌, if◌then◌else◌, List, [], ◌∷◌, ◌++◌, length, length-append, slice_get, slice_set, reverse, map, Option, Some, None, Result, Ok, Err, refl, sym, ap, subst, ◌∙◌, arith}
-use Rattle.std.specs.List.{list_all}
-use Rattle.std.proofs.lemmas.List.{length-set}
-use Rattle.p9_lang.specs.Names.{is_nameless}
+use Rattle.std.proofs.Common.{◌≡◌, ◌<◌, ℕ, suc, ◌+◌, ◌-◌, Bool, true, false, if◌then◌else◌, List, [], ◌∷◌, ◌++◌, length, slice_get, Option, Some, None, Result, Ok, Err, refl, sym, ap, subst, ◌∙◌}
 use Rattle.p9_lang.specs.declared.tree.Kind.{Kind}
 use Rattle.p9_lang.specs.declared.tree.Kind.TheVariants as kind
 use Rattle.p9_lang.specs.declared.tree.EntryBy.{EntryBy}
-use Rattle.p9_lang.specs.Trees.{node, none, more, Syntax, SyntaxRow, nodes_of_row}
-use Rattle.p9_lang.specs.Types.{TypeTree, Void, Int, Array, Meant, Nothing, Static, TypeName, MemberTree, Tags}
-use Rattle.p9_lang.specs.Rules.{Rule, Malformed, BadConstant, breaks_if, Undeclared, Redeclared, at_node, Broken, unless, and_then, first_of}
-use Rattle.p9_lang.specs.Scopes.{Known, Declared, Keyword, TagName, Tagging, tag_from, known_tag, new_tag, new_structure, tagged_as, with_node, next_node, close_level, close_block, in_levels, in_level, innermost, around, Enum}
-use Rattle.p9_lang.specs.Declarators.{LengthBy, Step, Shape, Unsized, Sized, Points, Keeps, Names, Takes, Head, Storage, NameNode, Words, Named, Structure, Enumeration, head_of, storage_of, closed, closed_from, shaped, broken_at, makes_no_type, with_length, adjusted, name_of, naming_rules, ByNothing, ByCaller, Declaring}
-use Rattle.p9_lang.specs.Parts.{Role, EntryOf, Context, Part, Value, Declarator, Object, Members, Enumerator, Parameter, NamedType, Braced, Filled, CaseLabel, Statement, DefaultLabel, Frame, Judged, kind_at, object_type, last_object, name_in, object_role, object_names, or_object, parameter_types, inner_steps, members_in, Plain, follows, length_by}
+use Rattle.p9_lang.specs.Trees.{node, more}
+use Rattle.p9_lang.specs.Types.{TypeTree, Void, Int, Meant, Nothing, Static, TypeName}
+use Rattle.p9_lang.specs.Rules.{Rule, Malformed, Undeclared, at_node, Broken}
+use Rattle.p9_lang.specs.Scopes.{Known, Declared, with_node, next_node, close_level, close_block, in_levels}
+use Rattle.p9_lang.specs.Declarators.{Step, Shape, Unsized, Sized, Points, Keeps, Names}
+use Rattle.p9_lang.specs.Parts.{Role, EntryOf, Part, Value, Declarator, Object, Members, Enumerator, Parameter, NamedType, Braced, Filled, CaseLabel, Statement, DefaultLabel, Frame, Judged, object_type, last_object, or_object, inner_steps}
 use Rattle.p9_lang.specs.Constants.{Operand, Constant, NotConstant}
 use Rattle.p9_lang.specs.Expressions.{Verdict, verdict}
-use Rattle.p9_lang.specs.Opening.{opened, context, of_head}
-use Rattle.p9_lang.specs.Declaring.{broken_rules, behind, last_node, named_with, declare_object, declare_as, with_body_open, open_body, parameter_count, declare_member, declare_parameter, parameter_meaning, parameter_rules, declared_parameter, member_rules, names_in_braces, initialiser_role, declared_meaning, close_type, declared, function_declaring, object_declaring, enumerated, enumerator_value, constant_meaning, complete_if, with_members, with_length_given, with_given_length, length_rules, declared_before, unless_broken, initialiser_rules, given_length, retyped, initialised}
-use Rattle.p9_lang.specs.Entries.{entry_role, is_index_next}
-use Rattle.p9_lang.specs.Typing.{has, typeless, stepped, step_at, judged_brackets, judged_name, judged_text, judged_decl_name, judged_enumerator, judged_entry, judged_as, judged_expression, judged, judged_params, operand, judge, judge_parts, role_rules, with_rules, is_filled_by_text, is_block_static, is_whole, text_type, operands_of}
-use Rattle.p9_lang.proofs.Growing.{Grows, stays, then_grows, appended_grows, body_grows}
-use Rattle.p9_lang.proofs.Counting.{then_of, unless_of}
-use Rattle.p9_sound.specs.Labels.{is_open, IsShut, LabelsAreKept, AreKnown, LabelsStay}
-use Rattle.p9_sound.proofs.Numbering.{get_last, get_before, get_apart, kinds_after, kinds_after_row, root, roots, length_last, root_last, Extends, extends_self, extends_last, extends_tree, extends_row, IsOpen, shut_later, open_later, shut_last, open_last, apart, shut_within, AreOpen, steps_later, steps_append, steps_reverse, steps_with_length, name_open}
+use Rattle.p9_lang.specs.Declaring.{broken_rules}
+use Rattle.p9_lang.specs.Typing.{has, typeless, stepped, step_at, judged_brackets, judged_name, judged_text, judged_decl_name, judged_enumerator, judged_entry, judged_as, judged_expression, judged, judged_params, operand, is_filled_by_text, is_block_static, is_whole, text_type, operands_of}
+use Rattle.p9_lang.proofs.Growing.{Grows, stays, then_grows}
+use Rattle.p9_lang.proofs.Counting.{unless_of}
+use Rattle.p9_sound.specs.Labels.{is_open, IsShut, AreKnown}
+use Rattle.p9_sound.proofs.Numbering.{get_last, get_before, length_last, Extends, extends_self, extends_last, IsOpen, shut_later, shut_last, open_last, shut_within, AreOpen, steps_later, steps_append}
 
 pub record Stays (kinds : List Kind) (s r : Known) : Type 0 where
   pub types : (n : ℕ) → IsShut kinds n → slice_get r.types n ≡ slice_get s.types n
