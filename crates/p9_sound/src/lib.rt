@@ -3,4 +3,4 @@
 
 mod laws;
 
-pub use laws::labels_stay;
+pub use laws::{labels_stay, nodes_are_typed};
