@@ -1,0 +1,6 @@
+pub mod Nodes
+pub mod Unlabelled
+pub mod Arities
+pub mod Names
+pub mod Labels
+pub mod Evaluated
