@@ -1,3 +1,5 @@
 pub mod Types
+pub mod Steps
 pub mod Judging
 pub mod Closed
+pub mod Inwards

@@ -1,5 +1,5 @@
 // The rules on names that are declared.
-ghost use Rattle.std.specs.Prelude.{◌≡◌, IfOk};
+ghost use Rattle.std.specs.Prelude.{◌≡◌, IsTrue, IfOk};
 ghost use Rattle.std.specs.Option.{option_copied};
 ghost use Rattle.p9_lang.specs.Types.{type_of, tags_of, meant};
 ghost use Rattle.p9_lang.specs.Rules as specs;
@@ -106,16 +106,26 @@ fn type_rules(
     object_rules(alloc, tags, ty)
 }
 
-#[tactic(auto, using(crate::proofs::Types::same_elements, crate::proofs::Types::same_sized, crate::proofs::Types::same_beside_no_array))]
+#[tactic(auto, using(crate::proofs::Types::same_elements, crate::proofs::Types::same_beside_no_array))]
+fn same_elements(alloc: Global, old: &CType, new: &CType) -> Result<bool, NoMemory>
+    requires { IsTrue (lacks_length (type_of new.now)) }
+    ensures { IfOk result (λ same. same ≡ same_so_far (type_of old.now) (type_of new.now)) }
+{
+    if let Some(old) = array_elements(old) {
+        if let Some(new) = array_elements(new) {
+            return same_type(alloc, old.ty, new.ty);
+        }
+    }
+    same_type(alloc, old, new)
+}
+
+// Equal types, where the length of an array may still be given.
+#[tactic(auto, using(crate::proofs::Types::same_beside_sized))]
 fn same_so_far(alloc: Global, old: &CType, new: &CType) -> Result<bool, NoMemory>
     ensures { IfOk result (λ same. same ≡ same_so_far (type_of old.now) (type_of new.now)) }
 {
-    if let Some(new) = array_elements(new) {
-        if new.count == 0 {
-            if let Some(old) = array_elements(old) {
-                return same_type(alloc, old.ty, new.ty);
-            }
-        }
+    if lacks_length(new) {
+        return same_elements(alloc, old, new);
     }
     same_type(alloc, old, new)
 }
