@@ -3,3 +3,4 @@ pub mod Steps
 pub mod Judging
 pub mod Closed
 pub mod Inwards
+pub mod Operations
