@@ -28,3 +28,7 @@ pub fault_at : {A B : Type 0} (f : TypingFault) (node : ℕ) (rule : Option Rule
 fault_at (fault.Broken n r) node rule answer same e =
     same (told_rule r) e.1 ∙ ap (λ k. Err (at_node k (told_rule r))) (sym e.0)
 fault_at fault.Memory node rule answer same e = absurd e
+
+pub told_same : {A : Type 0} (f : TypingFault) {answer other : Result A Broken} → answer ≡ other → TellsBroken f answer → TellsBroken f other
+told_same (fault.Broken node rule) e h = sym e ∙ h
+told_same fault.Memory e h = tt

@@ -1,5 +1,5 @@
 pub mod Types
-pub mod Steps
+pub mod Outermost
 pub mod Judging
 pub mod Closed
 pub mod Inwards
