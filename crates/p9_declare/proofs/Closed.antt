@@ -14,7 +14,7 @@ use Rattle.p9_declare.specs.declared.fault.TypingFault.TheVariants as fault
 use Rattle.p9_declare.specs.Judging.{TellsBroken, TellsAt}
 use Rattle.p9_declare.specs.Told.{told_fault}
 use Rattle.p9_declare.specs.Closing.{with_types, closed_over, closed_with}
-use Rattle.p9_declare.proofs.Judging.{fault_at}
+use Rattle.p9_declare.proofs.Judging.{same_fault, fault_at}
 
 -- rules that go by the tags and names that are known, which closing a declarator keeps
 abbrev pub RulesBy : Type 0
@@ -90,3 +90,11 @@ pub named_before : (rules : Option TypeTree → List Rule) (last : ℕ) (by : Le
 named_before rules last by base steps s f g o e h k =
     told_earlier f g last o (closed_over by base steps s) (closed_with last rules by base steps s)
     (λ b i. broken_by rules last (closed s.tags by base steps s.types) s b o i h) e k
+
+-- where no rule goes without the type, a step's is told
+pub named_unknown : (rules : Option TypeTree → List Rule) (last : ℕ) (by : LengthBy) (base : TypeTree) (steps : List Step) (s : Known) (f : TypingFault)
+    → TellsBroken f (closed_over by base steps s) → least (rules None) ≡ None
+    → TellsBroken f (closed_with last rules by base steps s)
+named_unknown rules last by base steps s f e g =
+    same_fault f (closed_over by base steps s) (closed_with last rules by base steps s)
+    (λ b h. broken_by rules last (closed s.tags by base steps s.types) s b None h (sym g)) e

@@ -30,15 +30,15 @@ pub fn last_node(known: &Known) -> usize
     }
 }
 
-/// What gives lengths to a declarator's brackets without one: the caller of the rule, or a count that
-/// an initialiser has given.
+// What gives a length to a declarator's brackets without one, and the length if it is known.
 #[derive(Clone, Copy)]
-pub(crate) struct Lengths {
-    pub(crate) by: LengthBy,
-    pub(crate) given: Option<u32>,
+struct Lengths {
+    by: LengthBy,
+    given: Option<u32>,
 }
 
 // A step of a declarator, whose type becomes that of its node.
+#[tactic(auto, using(crate::proofs::Inwards::step_ok, crate::proofs::Inwards::step_broken))]
 fn close_step(
     known: &mut Known,
     alloc: Global,
@@ -64,8 +64,8 @@ fn close_step(
     }
 }
 
-/// The type of a whole declarator, and those of its steps' nodes.
-pub(crate) fn close(
+// The type of a whole declarator, and those of its steps' nodes.
+fn close_steps(
     known: &mut Known,
     alloc: Global,
     lengths: Lengths,
@@ -87,6 +87,40 @@ pub(crate) fn close(
     Ok(ty)
 }
 
+/// The type of a whole declarator, and those of its steps' nodes.
+#[tactic(auto, using(crate::proofs::Outermost::map_given_none))]
+pub(crate) fn close(
+    known: &mut Known,
+    alloc: Global,
+    by: LengthBy,
+    base: &CType,
+    steps: &[Step],
+) -> Result<CType, TypingFault>
+    ensures { Judges type_of result (known_of known.new)
+        (closed_over (told_by by) (type_of base.now) (steps_of steps.now) (known_of known.old)) }
+{
+    close_steps(known, alloc, Lengths { by, given: None }, base, steps)
+}
+
+/// The same, where an initialiser has given a length to brackets without one.
+#[tactic(auto, using(crate::proofs::Outermost::map_given_some))]
+pub(crate) fn close_given(
+    known: &mut Known,
+    alloc: Global,
+    count: u32,
+    base: &CType,
+    steps: &[Step],
+) -> Result<CType, TypingFault>
+    ensures { Judges type_of result (known_of known.new)
+        (closed_over specs.ByNothing (type_of base.now) (map (specs.with_length count) (steps_of steps.now)) (known_of known.old)) }
+{
+    let lengths = Lengths {
+        by: LengthBy::ByNothing,
+        given: Some(count),
+    };
+    close_steps(known, alloc, lengths, base, steps)
+}
+
 /// The type that a declarator without a name makes, in a cast or `sizeof`.
 pub fn close_type(
     known: &mut Known,
@@ -97,5 +131,5 @@ pub fn close_type(
     ensures { Judges (λ ty. Object (type_of ty) (steps_of steps.now) (last_node (known_of known.old)) Plain) result (known_of known.new)
         (type_closed (λ t. t) specs.ByNothing (type_of base.now) (steps_of steps.now) (known_of known.old)) }
 {
-    close(known, alloc, Lengths { by: LengthBy::ByNothing, given: None }, base, steps)
+    close(known, alloc, LengthBy::ByNothing, base, steps)
 }

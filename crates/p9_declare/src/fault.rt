@@ -1,9 +1,9 @@
 // The rule that a file breaks first, and want of memory.
-ghost use Rattle.std.specs.Prelude.{◌≡◌, ℕ, List, map, Result};
+ghost use Rattle.std.specs.Prelude.{◌≡◌};
 ghost use Rattle.std.specs.Option.{option_map};
 ghost use Rattle.p9_lang.specs.Rules as rules;
-ghost use Rattle.p9_operand.specs.Least.{unless_at, earlier_of};
-ghost use Rattle.p9_operand.specs.Told.{told_least};
+ghost use Rattle.p9_operand.specs.Least.{earlier_of};
+ghost use Rattle.p9_operand.specs.Told.{told_rule, told_least};
 ghost use Rattle.p9_declare.specs.Told.{told_fault};
 ghost use Rattle.p9_declare.specs.Judging.{TellsAt};
 
@@ -54,19 +54,41 @@ pub fn unless_broken(node: usize, rule: Option<Rule>) -> Result<(), TypingFault>
     }
 }
 
+// Whether a rule that a node breaks is told before another.
+fn is_before(node: usize, rule: &Rule, other_node: usize, other: &Rule) -> bool
+    ensures { result ≡ rules.is_before (rules.at_node node (told_rule rule.now)) (rules.at_node other_node (told_rule other.now)) }
+{
+    if node < other_node {
+        return true;
+    }
+    if other_node < node {
+        return false;
+    }
+    rule.number() < other.number()
+}
+
 /// The first rule that is broken, where a node breaks this one too.
 pub fn also_broken(fault: TypingFault, node: usize, rule: Option<Rule>) -> TypingFault
     ensures { told_fault result ≡ option_map (λ broken. earlier_of broken node (told_least rule)) (told_fault fault) }
 {
-    match rule {
-        None => fault,
-        Some(other) => match fault {
-            TypingFault::Memory => TypingFault::Memory,
-            TypingFault::Broken { node: first, rule } => {
-                if node < first || node == first && other.number() < rule.number() {
+    match fault {
+        TypingFault::Memory => TypingFault::Memory,
+        TypingFault::Broken {
+            node: first,
+            rule: broken,
+        } => match rule {
+            None => TypingFault::Broken {
+                node: first,
+                rule: broken,
+            },
+            Some(other) => {
+                if is_before(node, &other, first, &broken) {
                     TypingFault::Broken { node, rule: other }
                 } else {
-                    TypingFault::Broken { node: first, rule }
+                    TypingFault::Broken {
+                        node: first,
+                        rule: broken,
+                    }
                 }
             }
         },

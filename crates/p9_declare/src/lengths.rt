@@ -14,10 +14,9 @@ ghost use Rattle.p9_declare.specs.Closing.{closed_with, with_given};
 ghost use Rattle.p9_declare.specs.Judging.{Judges, Leaves};
 ghost use Rattle.p9_declare.specs.Told.{steps_of};
 
-use crate::closing::{Lengths, close};
+use crate::closing::close_given;
 use crate::fault::{TypingFault, unless_broken};
 use crate::rules::redeclared_if;
-use crate::shaping::LengthBy;
 use crate::steps::{Step, name_of};
 use p9_base::NoMemory;
 use p9_lang::{CType, Ident};
@@ -40,7 +39,6 @@ fn length_rules(alloc: Global, known: &Known, name: &Ident, ty: &CType) -> Resul
     }
 }
 
-#[tactic(auto, using(crate::proofs::Closed::named_unknown, crate::proofs::Closed::named_ok, crate::proofs::Closed::named_after))]
 fn close_again(
     known: &mut Known,
     alloc: Global,
@@ -54,11 +52,7 @@ fn close_again(
         (closed_with last (length_rules name.now (declared_before name.now (innermost (known_of known.old).names)))
         specs.ByNothing (type_of base.now) (map (specs.with_length count) (steps_of steps.now)) (known_of known.old)) }
 {
-    let lengths = Lengths {
-        by: LengthBy::ByNothing,
-        given: Some(count),
-    };
-    match close(known, alloc, lengths, base, steps) {
+    match close_given(known, alloc, count, base, steps) {
         Ok(ty) => {
             let rule = length_rules(alloc, known, name, &ty)?;
             match unless_broken(last, rule) {

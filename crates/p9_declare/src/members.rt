@@ -14,7 +14,7 @@ ghost use Rattle.p9_declare.specs.Judging.{Judges};
 ghost use Rattle.p9_declare.specs.Operations.{named_member_rules, member_declared};
 ghost use Rattle.p9_declare.specs.Told.{steps_of, type_in};
 
-use crate::closing::{Lengths, close, last_node};
+use crate::closing::{close, last_node};
 use crate::fault::{TypingFault, also_broken, unless_broken};
 use crate::rules::{redeclared_if, sized_rules};
 use crate::shaping::LengthBy;
@@ -48,7 +48,6 @@ fn member_rules(
     }
 }
 
-#[tactic(auto, using(crate::proofs::Closed::named_broken, crate::proofs::Closed::named_ok, crate::proofs::Closed::named_after))]
 fn close_member(
     known: &mut Known,
     alloc: Global,
@@ -63,11 +62,7 @@ fn close_member(
 {
     let last = last_node(known);
     let untyped = redeclared_if(alloc, is_taken, name)?;
-    let lengths = Lengths {
-        by: LengthBy::ByNothing,
-        given: None,
-    };
-    match close(known, alloc, lengths, base, steps) {
+    match close(known, alloc, LengthBy::ByNothing, base, steps) {
         Ok(ty) => {
             let typed = member_rules(alloc, known.tags(), is_taken, name, Some(&ty))?;
             match unless_broken(last, typed) {

@@ -10,7 +10,7 @@ ghost use Rattle.p9_declare.specs.Closing.{closed_with};
 ghost use Rattle.p9_declare.specs.Judging.{Judges};
 ghost use Rattle.p9_declare.specs.Told.{told_by, told_declaring, told_name, steps_of};
 
-use crate::closing::{Lengths, close, last_node};
+use crate::closing::{close, last_node};
 use crate::fault::{TypingFault, also_broken, unless_broken};
 use crate::rules::naming_rules;
 use crate::shaping::LengthBy;
@@ -124,7 +124,6 @@ fn declare_as(
 }
 
 // The type of a declarator, unless it or its name breaks a rule.
-#[tactic(auto, using(crate::proofs::Closed::named_broken, crate::proofs::Closed::named_ok, crate::proofs::Closed::named_after))]
 fn close_object(
     known: &mut Known,
     alloc: Global,
@@ -141,7 +140,7 @@ fn close_object(
 {
     let last = last_node(known);
     let untyped = naming_rules(alloc, known, declaring, name.name, None)?;
-    match close(known, alloc, Lengths { by, given: None }, base, steps) {
+    match close(known, alloc, by, base, steps) {
         Ok(ty) => {
             let typed = naming_rules(alloc, known, declaring, name.name, Some(&ty))?;
             match unless_broken(last, typed) {

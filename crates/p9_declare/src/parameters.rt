@@ -13,7 +13,7 @@ ghost use Rattle.p9_declare.specs.Judging.{Judges};
 ghost use Rattle.p9_declare.specs.Operations.{automatic, with_parameter, parameter_declared};
 ghost use Rattle.p9_declare.specs.Told.{told_name, steps_of};
 
-use crate::closing::{Lengths, close, last_node};
+use crate::closing::{close, last_node};
 use crate::fault::{TypingFault, also_broken, unless_broken};
 use crate::rules::redeclared_if;
 use crate::shaping::{LengthBy, adjusted};
@@ -24,11 +24,6 @@ use p9_operand::{Rule, copied};
 use p9_scopes::{Declared, Known};
 use std::alloc::Global;
 
-const BY_CALLER: Lengths = Lengths {
-    by: LengthBy::ByCaller,
-    given: None,
-};
-
 /// The rule that a name at the innermost level isn't declared again.
 pub(crate) fn new_name_rules(alloc: Global, known: &Known, name: &Ident) -> Result<Option<Rule>, NoMemory>
     ensures { IfOk result (λ rule. told_least rule
@@ -38,7 +33,6 @@ pub(crate) fn new_name_rules(alloc: Global, known: &Known, name: &Ident) -> Resu
     redeclared_if(alloc, is_declared, name)
 }
 
-#[tactic(auto, using(crate::proofs::Closed::named_broken, crate::proofs::Closed::named_ok, crate::proofs::Closed::named_after))]
 fn close_parameter(
     known: &mut Known,
     alloc: Global,
@@ -52,7 +46,7 @@ fn close_parameter(
 {
     let last = last_node(known);
     let untyped = new_name_rules(alloc, known, name)?;
-    match close(known, alloc, BY_CALLER, base, steps) {
+    match close(known, alloc, LengthBy::ByCaller, base, steps) {
         Ok(ty) => match unless_broken(last, untyped) {
             Ok(_) => Ok(ty),
             Err(fault) => Err(fault),
@@ -106,7 +100,7 @@ pub fn declare_parameter(
         (parameter_declared (type_of base.now) (automatic number) (steps_of steps.now) (specs.name_of (steps_of steps.now)) (known_of known.old)) }
 {
     let Some(name) = name_of(steps) else {
-        return match close(known, alloc, BY_CALLER, base, steps) {
+        return match close(known, alloc, LengthBy::ByCaller, base, steps) {
             Ok(ty) => Ok(adjusted(alloc, &ty)?),
             Err(fault) => Err(fault),
         };

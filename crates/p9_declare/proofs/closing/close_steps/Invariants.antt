@@ -3,7 +3,7 @@ use Rattle.p9_lang.specs.Types.{type_of}
 use Rattle.p9_scopes.specs.State.{known_of}
 use Rattle.p9_declare.specs.Closing.{with_given, closed_inwards}
 use Rattle.p9_declare.specs.Told.{told_by, steps_of}
-use Rattle.p9_declare.proofs.closing.close.Given as goal
+use Rattle.p9_declare.proofs.closing.close_steps.Given as goal
 
 abbrev pub invariant-steps : goal.invariant-steps
 invariant-steps l =
