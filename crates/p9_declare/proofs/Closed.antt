@@ -11,10 +11,10 @@ use Rattle.p9_operand.proofs.Leasts.{unless_at_node, first_of_least}
 use Rattle.p9_operand.specs.Told.{told_rule}
 use Rattle.p9_declare.specs.declared.fault.TypingFault.{TypingFault}
 use Rattle.p9_declare.specs.declared.fault.TypingFault.TheVariants as fault
-use Rattle.p9_declare.specs.Judging.{TellsBroken, TellsAt}
+use Rattle.p9_declare.specs.Judging.{TellsBroken}
 use Rattle.p9_declare.specs.Told.{told_fault}
 use Rattle.p9_declare.specs.Closing.{with_types, closed_over, closed_with}
-use Rattle.p9_declare.proofs.Judging.{same_fault, fault_at}
+use Rattle.p9_declare.proofs.Judging.{same_fault}
 
 -- rules that go by the tags and names that are known, which closing a declarator keeps
 abbrev pub RulesBy : Type 0
@@ -58,12 +58,10 @@ after_by rules last (Ok made) s after t rule e f =
     subst P (same_value (made.0, record s { types = made.1 }) (t, after) e) (λ g. named_by last (rules s.tags s.names) made s (Some rule) g) f
 after_by rules last (Err broken) s after t rule e f = cc
 
-pub named_after : {A : Type 0} (rules : RulesBy) (last : ℕ) (by : LengthBy) (base : TypeTree) (steps : List Step) (s after : Known) (t : TypeTree) (f : TypingFault) (o : Option Rule)
-    → closed_over by base steps s ≡ Ok (t, after) → o ≡ least (rules after.tags after.names (Some t)) → TellsAt {A} (Err f) last o
-    → TellsBroken f (closed_with last (rules s.tags s.names) by base steps s)
-named_after rules last by base steps s after t f o e g h =
-    fault_at f last o (closed_with last (rules s.tags s.names) by base steps s)
-    (λ rule k. after_by rules last (closed s.tags by base steps s.types) s after t rule e (sym g ∙ k)) h
+pub named_after : (rules : RulesBy) (last : ℕ) (by : LengthBy) (base : TypeTree) (steps : List Step) (s after : Known) (t : TypeTree) (rule : Rule)
+    → closed_over by base steps s ≡ Ok (t, after) → least (rules after.tags after.names (Some t)) ≡ Some rule
+    → closed_with last (rules s.tags s.names) by base steps s ≡ Err (at_node last rule)
+named_after rules last by base steps s after t rule e f = after_by rules last (closed s.tags by base steps s.types) s after t rule e f
 
 -- a step breaks a rule, and maybe the name another
 broken_by : (rules : Option TypeTree → List Rule) (last : ℕ) (r : Result Made Broken) (s : Known) (b : Broken) (o : Option Rule)

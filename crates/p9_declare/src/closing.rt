@@ -65,6 +65,7 @@ fn close_step(
 }
 
 // The type of a whole declarator, and those of its steps' nodes.
+#[tactic(auto, using(crate::proofs::Inwards::step_on, crate::proofs::Inwards::step_off, crate::proofs::Inwards::no_step))]
 fn close_steps(
     known: &mut Known,
     alloc: Global,
@@ -122,6 +123,7 @@ pub(crate) fn close_given(
 }
 
 /// The type that a declarator without a name makes, in a cast or `sizeof`.
+#[tactic(auto, using(crate::proofs::Declared::closed_type, crate::proofs::Declared::broken_type))]
 pub fn close_type(
     known: &mut Known,
     alloc: Global,

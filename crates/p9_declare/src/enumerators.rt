@@ -1,6 +1,7 @@
 // Enumeration constants that are declared.
-ghost use Rattle.std.specs.Prelude.{◌≡◌, Some};
-ghost use Rattle.p9_lang.specs.Types.{meant};
+ghost use Rattle.std.specs.Prelude.{◌≡◌, false, Some, OnOk};
+ghost use Rattle.p9_lang.specs.Types.{Int, meant};
+ghost use Rattle.p9_lang.specs.Scopes.{declare, with_meaning};
 ghost use Rattle.p9_lang.specs.Parts.{Enumerator};
 ghost use Rattle.p9_lang.specs.Declaring.{constant_rules, constant_meaning, enumerated};
 ghost use Rattle.p9_operand.specs.Least.{least};
@@ -9,7 +10,7 @@ ghost use Rattle.p9_scopes.specs.State.{known_of};
 ghost use Rattle.p9_declare.specs.Judging.{Judges};
 
 use crate::closing::last_node;
-use crate::fault::{TypingFault, unless_broken};
+use crate::fault::TypingFault;
 use crate::parameters::new_name_rules;
 use p9_base::NoMemory;
 use p9_lang::{Bind, CType, Ident};
@@ -72,11 +73,11 @@ pub fn enumerated(
 {
     let last = last_node(known);
     let again = new_name_rules(alloc, known, name)?;
-    match unless_broken(last, least_of_both(again, constant_rules(value))) {
-        Ok(_) => {
+    match least_of_both(again, constant_rules(value)) {
+        Some(rule) => Err(TypingFault::Broken { node: last, rule }),
+        None => {
             declare_constant(known, alloc, last, name, value)?;
             Ok(())
         }
-        Err(fault) => Err(fault),
     }
 }

@@ -15,7 +15,7 @@ ghost use Rattle.p9_declare.specs.Judging.{Judges, Leaves};
 ghost use Rattle.p9_declare.specs.Told.{steps_of};
 
 use crate::closing::close_given;
-use crate::fault::{TypingFault, unless_broken};
+use crate::fault::TypingFault;
 use crate::rules::redeclared_if;
 use crate::steps::{Step, name_of};
 use p9_base::NoMemory;
@@ -55,15 +55,16 @@ fn close_again(
     match close_given(known, alloc, count, base, steps) {
         Ok(ty) => {
             let rule = length_rules(alloc, known, name, &ty)?;
-            match unless_broken(last, rule) {
-                Ok(_) => Ok(ty),
-                Err(fault) => Err(fault),
+            match rule {
+                Some(rule) => Err(TypingFault::Broken { node: last, rule }),
+                None => Ok(ty),
             }
         }
         Err(fault) => Err(fault),
     }
 }
 
+#[tactic(auto, using(crate::proofs::Declared::length_given, crate::proofs::Declared::length_broken))]
 fn with_named_length(
     known: &mut Known,
     alloc: Global,

@@ -15,7 +15,7 @@ ghost use Rattle.p9_declare.specs.Operations.{named_member_rules, member_declare
 ghost use Rattle.p9_declare.specs.Told.{steps_of, type_in};
 
 use crate::closing::{close, last_node};
-use crate::fault::{TypingFault, also_broken, unless_broken};
+use crate::fault::{TypingFault, also_broken};
 use crate::rules::{redeclared_if, sized_rules};
 use crate::shaping::LengthBy;
 use crate::steps::{Step, name_of};
@@ -65,9 +65,9 @@ fn close_member(
     match close(known, alloc, LengthBy::ByNothing, base, steps) {
         Ok(ty) => {
             let typed = member_rules(alloc, known.tags(), is_taken, name, Some(&ty))?;
-            match unless_broken(last, typed) {
-                Ok(_) => Ok(ty),
-                Err(fault) => Err(fault),
+            match typed {
+                Some(rule) => Err(TypingFault::Broken { node: last, rule }),
+                None => Ok(ty),
             }
         }
         Err(fault) => Err(also_broken(fault, last, untyped)),
@@ -76,6 +76,7 @@ fn close_member(
 
 /// A member is declared; `is_taken` says that its body has one of its name already. The answer is its
 /// type.
+#[tactic(auto, using(crate::proofs::Declared::member_nameless, crate::proofs::Declared::member_named, crate::proofs::Declared::member_broken))]
 pub fn declare_member(
     known: &mut Known,
     alloc: Global,

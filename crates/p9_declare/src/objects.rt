@@ -11,7 +11,7 @@ ghost use Rattle.p9_declare.specs.Judging.{Judges};
 ghost use Rattle.p9_declare.specs.Told.{told_by, told_declaring, told_name, steps_of};
 
 use crate::closing::{close, last_node};
-use crate::fault::{TypingFault, also_broken, unless_broken};
+use crate::fault::{TypingFault, also_broken};
 use crate::rules::naming_rules;
 use crate::shaping::LengthBy;
 use crate::steps::{NameNode, Step, name_of};
@@ -143,9 +143,9 @@ fn close_object(
     match close(known, alloc, by, base, steps) {
         Ok(ty) => {
             let typed = naming_rules(alloc, known, declaring, name.name, Some(&ty))?;
-            match unless_broken(last, typed) {
-                Ok(_) => Ok(ty),
-                Err(fault) => Err(fault),
+            match typed {
+                Some(rule) => Err(TypingFault::Broken { node: last, rule }),
+                None => Ok(ty),
             }
         }
         Err(fault) => Err(also_broken(fault, last, untyped)),
@@ -153,6 +153,7 @@ fn close_object(
 }
 
 /// A name of an object, a function or a type is declared. The answer is its type.
+#[tactic(auto, using(crate::proofs::Declared::object_nameless, crate::proofs::Declared::object_declared, crate::proofs::Declared::object_broken))]
 pub fn declare_object(
     known: &mut Known,
     alloc: Global,

@@ -14,7 +14,7 @@ ghost use Rattle.p9_declare.specs.Operations.{automatic, with_parameter, paramet
 ghost use Rattle.p9_declare.specs.Told.{told_name, steps_of};
 
 use crate::closing::{close, last_node};
-use crate::fault::{TypingFault, also_broken, unless_broken};
+use crate::fault::{TypingFault, also_broken};
 use crate::rules::redeclared_if;
 use crate::shaping::{LengthBy, adjusted};
 use crate::steps::{NameNode, Step, name_of};
@@ -47,9 +47,9 @@ fn close_parameter(
     let last = last_node(known);
     let untyped = new_name_rules(alloc, known, name)?;
     match close(known, alloc, LengthBy::ByCaller, base, steps) {
-        Ok(ty) => match unless_broken(last, untyped) {
-            Ok(_) => Ok(ty),
-            Err(fault) => Err(fault),
+        Ok(ty) => match untyped {
+            Some(rule) => Err(TypingFault::Broken { node: last, rule }),
+            None => Ok(ty),
         },
         Err(fault) => Err(also_broken(fault, last, untyped)),
     }
@@ -89,6 +89,7 @@ fn name_parameter(
 
 /// A parameter is declared, with a name or without; it is an automatic of this number if it has one.
 /// The answer is its type, where an array or a function is a pointer.
+#[tactic(auto, using(crate::proofs::Declared::parameter_unnamed, crate::proofs::Declared::parameter_unnamed_broken, crate::proofs::Declared::parameter_named, crate::proofs::Declared::parameter_broken))]
 pub fn declare_parameter(
     known: &mut Known,
     alloc: Global,
