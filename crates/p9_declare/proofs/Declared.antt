@@ -1,8 +1,8 @@
 -- What declarators declare, once they are closed.
-use Rattle.std.proofs.Common.{◌≡◌, ℕ, Bool, List, ◌∷◌, map, Option, Some, None, Result, Ok, Err, refl, sym, ap, ◌∙◌, subst}
+use Rattle.std.proofs.Common.{◌≡◌, ℕ, Bool, List, [], ◌∷◌, map, Option, Some, None, Result, Ok, Err, refl, sym, ap, ◌∙◌, subst}
 use Rattle.p9_lang.specs.Types.{TypeTree, Meant}
 use Rattle.p9_lang.specs.Rules.{Broken, Malformed, at_node, and_then}
-use Rattle.p9_lang.specs.Scopes.{Known, innermost, around, in_level}
+use Rattle.p9_lang.specs.Scopes.{Known, Declared, innermost, around, in_level}
 use Rattle.p9_lang.specs.Declarators.{LengthBy, ByNothing, ByCaller, Step, NameNode, Declaring, closed, naming_rules, adjusted, with_length}
 use Rattle.p9_lang.specs.Parts.{Part, Object, Plain}
 use Rattle.p9_lang.specs.Declaring.{last_node, named_with, declare_as, declare_object, initialiser_role, parameter_rules, length_rules, declared_before, retyped, with_given_length}
@@ -138,6 +138,10 @@ parameter_broken base means steps name n s f e g =
     s (λ made. Ok (Object (adjusted made.0) steps (last_node s) Plain, with_parameter means n made.0 (record s { types = made.1 }))) g)
 
 -- LENGTHS
+
+pub length_unknown : (x : List ℕ) (old : Option Declared) → length_rules x old None ≡ []
+length_unknown x None = refl
+length_unknown x (Some old) = refl
 
 pub length_given : (base : TypeTree) (steps : List Step) (last count : ℕ) (x : List ℕ) (s after final : Known) (t : TypeTree)
     → closed_with last (length_rules x (declared_before x (innermost s.names))) ByNothing base (map (with_length count) steps) s ≡ Ok (t, after)

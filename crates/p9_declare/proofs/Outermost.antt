@@ -4,15 +4,16 @@ use Rattle.std.proofs.lemmas.List.{map-append, reverse-append}
 use Rattle.std.proofs.lemmas.List.Folds.{list_all-append}
 use Rattle.std.specs.List.{list_all}
 use Rattle.p9_lang.specs.Constants as constants
-use Rattle.p9_lang.specs.Declarators.{Shape, Names, Keeps, Points, Sized, Unsized, Takes, Step, makes_no_type, with_length}
-use Rattle.p9_declare.specs.Closing.{with_given, is_unsized}
+use Rattle.p9_lang.specs.Types.{TypeTree, Tags}
+use Rattle.p9_lang.specs.Declarators.{LengthBy, shaped, Shape, Names, Keeps, Points, Sized, Unsized, Takes, Step, makes_no_type, with_length}
+use Rattle.p9_declare.specs.Closing.{with_given, is_unsized, sized_type}
 
 -- A STEP
 
 abbrev step : ℕ → Shape → Step
 step k shape = record { number = k; shape = shape }
 
-pub with_length-unsized : (n k : ℕ) (shape : Shape) → is_unsized shape ≡ true → (with_length n (step k shape)).shape ≡ Sized (constants.Value n)
+with_length-unsized : (n k : ℕ) (shape : Shape) → is_unsized shape ≡ true → (with_length n (step k shape)).shape ≡ Sized (constants.Value n)
 with_length-unsized n k (Names x) e = cc
 with_length-unsized n k Keeps e = cc
 with_length-unsized n k Points e = cc
@@ -20,13 +21,21 @@ with_length-unsized n k (Sized c) e = cc
 with_length-unsized n k Unsized e = refl
 with_length-unsized n k (Takes ts l) e = cc
 
-pub with_length-other : (n k : ℕ) (shape : Shape) → is_unsized shape ≡ false → (with_length n (step k shape)).shape ≡ shape
+with_length-other : (n k : ℕ) (shape : Shape) → is_unsized shape ≡ false → (with_length n (step k shape)).shape ≡ shape
 with_length-other n k (Names x) e = refl
 with_length-other n k Keeps e = refl
 with_length-other n k Points e = refl
 with_length-other n k (Sized c) e = refl
 with_length-other n k Unsized e = cc
 with_length-other n k (Takes ts l) e = refl
+
+pub shaped_given : (tags : Tags) (by : LengthBy) (o : Bool) (n : ℕ) (s : Step) (t : TypeTree) → is_unsized s.shape ≡ true
+    → sized_type tags (constants.Value n) t ≡ shaped tags by o (with_given (Some n) s).shape t
+shaped_given tags by o n s t e = ap (λ shape. shaped tags by o shape t) (sym (with_length-unsized n s.number s.shape e))
+
+pub shaped_as_before : (tags : Tags) (by : LengthBy) (o : Bool) (n : ℕ) (s : Step) (t : TypeTree) → is_unsized s.shape ≡ false
+    → shaped tags by o s.shape t ≡ shaped tags by o (with_given (Some n) s).shape t
+shaped_as_before tags by o n s t e = ap (λ shape. shaped tags by o shape t) (sym (with_length-other n s.number s.shape e))
 
 number_kept : (n k : ℕ) (shape : Shape) → (with_length n (step k shape)).number ≡ k
 number_kept n k (Names x) = refl

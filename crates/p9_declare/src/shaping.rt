@@ -186,6 +186,7 @@ pub(crate) fn shaped(
 }
 
 /// The same, where an initialiser gives a length to brackets without one.
+#[tactic(auto, using(crate::proofs::Outermost::shaped_given, crate::proofs::Outermost::shaped_as_before))]
 pub(crate) fn shaped_with(
     alloc: Global,
     tags: &Tags,
