@@ -1,7 +1,8 @@
 // What is known as a function's body begins.
-ghost use Rattle.std.specs.Prelude.{◌≡◌, IfOk, OnOk, length};
+ghost use Rattle.std.specs.Prelude.{◌≡◌, IfOk, OnOk};
 ghost use Rattle.p9_lang.specs.Types.{type_of};
-ghost use Rattle.p9_lang.specs.Declaring.{open_body, parameter_count};
+ghost use Rattle.p9_lang.specs.Declaring.{names_of_list, open_body, parameter_count};
+ghost use Rattle.p9_lang.specs.Declarators.{own_list};
 ghost use Rattle.p9_scopes.specs.Seen.{level_of};
 ghost use Rattle.p9_scopes.specs.State.{known_of};
 ghost use Rattle.p9_declare.specs.Told.{steps_of};

@@ -36,7 +36,7 @@ fn member_rules(
 ) -> Result<Option<Rule>, NoMemory>
     requires { NoneContainsItself (tags_of tags.now.list) }
     ensures { IfOk result (λ rule. told_least rule
-        ≡ least (named_member_rules (tags_of tags.now.list) is_taken name.now (type_in (option_copied ty)))) }
+        ≡ least (named_member_rules (tags_of tags.now.list) is_taken name.now (type_in (option_copied ty.entry)))) }
 {
     let taken = redeclared_if(alloc, is_taken, name)?;
     match ty {

@@ -1,10 +1,11 @@
 // Objects, functions and names of types that are declared.
-ghost use Rattle.std.specs.Prelude.{◌≡◌, IfOk, OnOk};
-ghost use Rattle.p9_lang.specs.Types.{type_of, meant};
+ghost use Rattle.std.specs.Prelude.{◌≡◌, ◌+◌, if◌then◌else◌, slice_get, unwrap_or, IfOk, OnOk};
+ghost use Rattle.p9_lang.specs.Types.{type_of, meant, Nothing};
 ghost use Rattle.p9_lang.specs.Scopes.{innermost, in_level};
 ghost use Rattle.p9_lang.specs.Declarators as specs;
 ghost use Rattle.p9_lang.specs.Parts.{Object};
-ghost use Rattle.p9_lang.specs.Declaring.{last_node, initialiser_role, declared_meaning, declare_as, declare_object};
+ghost use Rattle.p9_lang.specs.Declaring.{last_node, takes_automatic, initialiser_role, declared_meaning, declare_as, declare_object};
+ghost use Rattle.p9_scopes.specs.Seen.{declared_of};
 ghost use Rattle.p9_scopes.specs.State.{known_of};
 ghost use Rattle.p9_declare.specs.Closing.{closed_with};
 ghost use Rattle.p9_declare.specs.Judging.{Judges};
@@ -55,7 +56,7 @@ fn declared_meaning(
     ty: &CType,
 ) -> Result<Bind, NoMemory>
     ensures { IfOk result (λ means. meant means
-        ≡ declared_meaning (told_declaring declaring) (told_name name) (type_of ty.now) (known_of known.now)) }
+        ≡ declared_meaning (told_declaring declaring) (told_name name.entry) (type_of ty.now) (known_of known.now)) }
 {
     if declaring.storage.is_typedef() {
         return Ok(Bind::TypeName(copied(alloc, ty)?));
@@ -77,7 +78,7 @@ fn declared_as(
     means: &Bind,
 ) -> Result<Declared, NoMemory>
     ensures { IfOk result (λ d. declared_of d ≡ record {
-      name = name.name.now;
+      name = name.entry.name.now;
       type = type_of ty.now;
       means = meant means.now;
       is_static = specs.is_static (told_declaring declaring).storage;
@@ -114,7 +115,7 @@ fn declare_as(
     ty: &CType,
 ) -> Result<(), NoMemory>
     ensures { OnOk result (known_of known.new
-        ≡ declare_as (told_declaring declaring) (told_name name) (type_of ty.now) (known_of known.old)) }
+        ≡ declare_as (told_declaring declaring) (told_name name.entry) (type_of ty.now) (known_of known.old)) }
 {
     let means = declared_meaning(alloc, known, declaring, name, ty)?;
     let declared = declared_as(alloc, declaring, name, ty, &means)?;
@@ -135,7 +136,7 @@ fn close_object(
 ) -> Result<CType, TypingFault>
     ensures { Judges type_of result (known_of known.new)
         (closed_with (last_node (known_of known.old))
-        (specs.naming_rules (known_of known.old).tags (told_declaring declaring) name.name.now (in_level name.name.now (innermost (known_of known.old).names)))
+        (specs.naming_rules (known_of known.old).tags (told_declaring declaring) name.entry.name.now (in_level name.entry.name.now (innermost (known_of known.old).names)))
         (told_by by) (type_of base.now) (steps_of steps.now) (known_of known.old)) }
 {
     let last = last_node(known);

@@ -1,6 +1,6 @@
 // Parameters that are declared.
 ghost use Rattle.std.specs.Prelude.{◌≡◌, IfOk, OnOk};
-ghost use Rattle.p9_lang.specs.Types.{type_of, meant};
+ghost use Rattle.p9_lang.specs.Types.{TypeTree, type_of, meant};
 ghost use Rattle.p9_lang.specs.Scopes.{innermost, in_level};
 ghost use Rattle.p9_lang.specs.Declarators as specs;
 ghost use Rattle.p9_lang.specs.Parts.{Object, Plain};
@@ -73,7 +73,7 @@ fn name_parameter(
     ty: &CType,
 ) -> Result<(), NoMemory>
     ensures { OnOk result ((type : TypeTree) → specs.adjusted type ≡ type_of ty.now → known_of known.new
-        ≡ with_parameter (automatic number) (told_name name) type (known_of known.old)) }
+        ≡ with_parameter (automatic number) (told_name name.entry) type (known_of known.old)) }
 {
     let declared = Declared {
         name: name.name.copied(alloc)?,

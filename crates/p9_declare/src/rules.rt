@@ -92,7 +92,7 @@ fn type_rules(
 ) -> Result<Option<Rule>, NoMemory>
     requires { NoneContainsItself (tags_of tags.now.list) }
     ensures { IfOk result (λ rule. told_least rule
-        ≡ least (type_rules (tags_of tags.now.list) (told_declaring declaring) (type_in (option_copied ty)))) }
+        ≡ least (type_rules (tags_of tags.now.list) (told_declaring declaring) (type_in (option_copied ty.entry)))) }
 {
     let Some(ty) = ty else {
         return Ok(None);
@@ -131,7 +131,7 @@ fn same_so_far(alloc: Global, old: &CType, new: &CType) -> Result<bool, NoMemory
 }
 
 fn has_equal_type(alloc: Global, old: &Declared, ty: Option<&CType>) -> Result<bool, NoMemory>
-    ensures { IfOk result (λ has. has ≡ has_equal_type (declared_of old.now) (type_in (option_copied ty))) }
+    ensures { IfOk result (λ has. has ≡ has_equal_type (declared_of old.now) (type_in (option_copied ty.entry))) }
 {
     match ty {
         Some(ty) => same_so_far(alloc, &old.ty, ty),
@@ -179,7 +179,7 @@ fn may_repeat(
     old: &Declared,
     ty: Option<&CType>,
 ) -> Result<bool, NoMemory>
-    ensures { IfOk result (λ may. may ≡ may_repeat (told_declaring declaring) (declared_of old.now) (type_in (option_copied ty))) }
+    ensures { IfOk result (λ may. may ≡ may_repeat (told_declaring declaring) (declared_of old.now) (type_in (option_copied ty.entry))) }
 {
     let has_equal_type = has_equal_type(alloc, old, ty)?;
     Ok(has_equal_type && is_again(declaring, old))
@@ -193,7 +193,7 @@ fn repeat_rules(
     ty: Option<&CType>,
 ) -> Result<Option<Rule>, NoMemory>
     ensures { IfOk result (λ rule. told_least rule
-        ≡ least (repeat_rules (told_declaring declaring) name.now (declared_in (option_copied old)) (type_in (option_copied ty)))) }
+        ≡ least (repeat_rules (told_declaring declaring) name.now (declared_in (option_copied old.entry)) (type_in (option_copied ty.entry)))) }
 {
     match old {
         Some(old) => {
@@ -215,7 +215,7 @@ pub(crate) fn naming_rules(
 ) -> Result<Option<Rule>, NoMemory>
     ensures { IfOk result (λ rule. told_least rule
         ≡ least (naming_rules (known_of known.now).tags (told_declaring declaring) name.now
-        (in_level name.now (innermost (known_of known.now).names)) (type_in (option_copied ty)))) }
+        (in_level name.now (innermost (known_of known.now).names)) (type_in (option_copied ty.entry)))) }
 {
     let again = repeat_rules(alloc, declaring, name, known.find_innermost(name), ty)?;
     let is_typedef = declaring.storage.is_typedef();
