@@ -23,11 +23,11 @@ RulesBy = Tags → List (List Declared) → Option TypeTree → List Rule
 abbrev Made : Type 0
 Made = TypeTree × List TypeTree
 
-same_value : {A E : Type 0} (x y : A) → Ok {A} {E} x ≡ Ok y → x ≡ y
-same_value x y e = cc
+same_value : {A E : Type 0} (r : Result A E) (x y : A) → r ≡ Ok x → r ≡ Ok y → x ≡ y
+same_value r x y e f = cc
 
-same_error : {A E : Type 0} (x y : E) → Err {A} {E} x ≡ Err y → x ≡ y
-same_error x y e = cc
+same_error : {A E : Type 0} (r : Result A E) (x y : E) → r ≡ Err x → r ≡ Err y → x ≡ y
+same_error r x y e f = cc
 
 abbrev named : ℕ → (Option TypeTree → List Rule) → Result Made Broken → Known → Result (TypeTree × Known) Broken
 named last rules r s = and_then (named_with last rules r) (λ made. with_types made s)
@@ -41,7 +41,7 @@ ok_by : (rules : RulesBy) (last : ℕ) (r : Result Made Broken) (s after : Known
     → least (rules after.tags after.names (Some t)) ≡ None → named last (rules s.tags s.names) r s ≡ Ok (t, after)
 ok_by rules last (Ok made) s after t e f =
     let P : TypeTree × Known → Type 0 = λ q. least (rules q.1.tags q.1.names (Some q.0)) ≡ None → named last (rules s.tags s.names) (Ok made) s ≡ Ok q in
-    subst P (same_value (made.0, record s { types = made.1 }) (t, after) e) (λ g. named_by last (rules s.tags s.names) made s None g) f
+    subst P (same_value {A = TypeTree × Known} {E = Broken} (with_types made s) (made.0, record s { types = made.1 }) (t, after) refl e) (λ g. named_by last (rules s.tags s.names) made s None g) f
 ok_by rules last (Err broken) s after t e f = cc
 
 pub named_ok : (rules : RulesBy) (last : ℕ) (by : LengthBy) (base : TypeTree) (steps : List Step) (s after : Known) (t : TypeTree)
@@ -55,7 +55,7 @@ after_by : (rules : RulesBy) (last : ℕ) (r : Result Made Broken) (s after : Kn
     → least (rules after.tags after.names (Some t)) ≡ Some rule → named last (rules s.tags s.names) r s ≡ Err (at_node last rule)
 after_by rules last (Ok made) s after t rule e f =
     let P : TypeTree × Known → Type 0 = λ q. least (rules q.1.tags q.1.names (Some q.0)) ≡ Some rule → named last (rules s.tags s.names) (Ok made) s ≡ Err (at_node last rule) in
-    subst P (same_value (made.0, record s { types = made.1 }) (t, after) e) (λ g. named_by last (rules s.tags s.names) made s (Some rule) g) f
+    subst P (same_value {A = TypeTree × Known} {E = Broken} (with_types made s) (made.0, record s { types = made.1 }) (t, after) refl e) (λ g. named_by last (rules s.tags s.names) made s (Some rule) g) f
 after_by rules last (Err broken) s after t rule e f = cc
 
 pub named_after : (rules : RulesBy) (last : ℕ) (by : LengthBy) (base : TypeTree) (steps : List Step) (s after : Known) (t : TypeTree) (rule : Rule)
@@ -68,7 +68,7 @@ broken_by : (rules : Option TypeTree → List Rule) (last : ℕ) (r : Result Mad
     → and_then r (λ made. with_types made s) ≡ Err b → o ≡ least (rules None) → named last rules r s ≡ Err (earlier_of b last o)
 broken_by rules last (Ok made) s b o e g = cc
 broken_by rules last (Err c) s b o e g =
-    ap Err (first_of_least c last (rules None) ∙ ap (earlier_of c last) (sym g) ∙ ap (λ d. earlier_of d last o) (same_error c b e))
+    ap Err (first_of_least c last (rules None) ∙ ap (earlier_of c last) (sym g) ∙ ap (λ d. earlier_of d last o) (same_error {A = TypeTree × Known} {E = Broken} (Err c) c b refl e))
 
 told_earlier : {A : Type 0} (f g : TypingFault) (last : ℕ) (o : Option Rule) (answer other : Result A Broken)
     → ((b : Broken) → answer ≡ Err b → other ≡ Err (earlier_of b last o))

@@ -15,13 +15,13 @@ use Rattle.p9_declare.proofs.Judging.{same_fault, told_same}
 abbrev Made : Type 0
 Made = TypeTree × List TypeTree
 
-same_value : {A E : Type 0} (x y : A) → Ok {A} {E} x ≡ Ok y → x ≡ y
-same_value x y e = cc
+same_value : {A E : Type 0} (r : Result A E) (x y : A) → r ≡ Ok x → r ≡ Ok y → x ≡ y
+same_value r x y e f = cc
 
 -- what goes on from the type of a declarator
 going_on : {A : Type 0} (r : Result Made Broken) (s after : Known) (t : TypeTree) (next : TypeTree → Known → A)
     → and_then r (λ made. with_types made s) ≡ Ok (t, after) → and_then r (λ made. Ok (next made.0 (record s { types = made.1 }))) ≡ Ok (next t after)
-going_on (Ok made) s after t next e = ap (λ q. Ok (next q.0 q.1)) (same_value (made.0, record s { types = made.1 }) (t, after) e)
+going_on (Ok made) s after t next e = ap (λ q. Ok (next q.0 q.1)) (same_value {A = TypeTree × Known} {E = Broken} (with_types made s) (made.0, record s { types = made.1 }) (t, after) refl e)
 going_on (Err broken) s after t next e = cc
 
 stopping : {A : Type 0} (r : Result Made Broken) (s : Known) (next : Made → Result A Broken) (b : Broken)

@@ -13,7 +13,7 @@ use Rattle.p9_declare.proofs.Outermost.{with_given-number, all_further, outermos
 
 after_step : (r : Result TypeTree Broken) (by : LengthBy) (k : ℕ) (steps : List Step) (s : Known)
     → and_then (and_then r (λ made. closed_from s.tags by made steps (slice_set s.types k made))) (λ made. with_types made s)
-    ≡ and_then (and_then r (λ made. Ok (made, record s { types = slice_set s.types k made }))) (λ q. closed_inwards by q.0 steps q.1)
+    ≡ and_then (and_then {A = TypeTree} {B = TypeTree × Known} {E = Broken} r (λ made. Ok (made, record s { types = slice_set s.types k made }))) (λ q. closed_inwards by q.0 steps q.1)
 after_step (Ok made) by k steps s = refl
 after_step (Err broken) by k steps s = refl
 
