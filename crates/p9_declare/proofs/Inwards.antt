@@ -74,7 +74,7 @@ pub step_off : {A : Type 0} (told : A → Step) (given : Option ℕ) (by : Lengt
     → closed_inwards by t (reverse (map (with_given given) (map told steps))) s ≡ whole → TellsBroken f whole
 step_off told given by o steps before step t s f whole e i g h =
     told_same f
-    (sym (ap (λ b. and_then (step_closed by b (with_given given (told step)) t s) (λ q. closed_inwards by q.0 (reverse (map (with_given given) (map told before))) q.1)) i)
+    (ap (λ b. and_then (step_closed by b (with_given given (told step)) t s) (λ q. closed_inwards by q.0 (reverse (map (with_given given) (map told before))) q.1)) i
     ∙ sym (last_step told given by steps before step t s e) ∙ h)
     (fault_goes_on f (step_closed by o (with_given given (told step)) t s) (λ q. closed_inwards by q.0 (reverse (map (with_given given) (map told before))) q.1) g)
 

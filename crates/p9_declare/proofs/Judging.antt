@@ -23,11 +23,11 @@ same_fault (fault.Broken node rule) answer other same e = same (at_node node (to
 same_fault fault.Memory answer other same e = tt
 
 -- the rule that a node breaks is the fault
-pub fault_at : {A B : Type 0} (f : TypingFault) (node : ℕ) (rule : Option Rule) (answer : Result B Broken)
+pub fault_at : {B : Type 0} (A : Type 0) (f : TypingFault) (node : ℕ) (rule : Option Rule) (answer : Result B Broken)
     → ((r : Rule) → rule ≡ Some r → answer ≡ Err (at_node node r)) → TellsAt {A = A} (Err f) node rule → TellsBroken f answer
-fault_at (fault.Broken n r) node rule answer same e =
+fault_at A (fault.Broken n r) node rule answer same e =
     same (told_rule r) e.1 ∙ ap (λ k. Err (at_node k (told_rule r))) (sym e.0)
-fault_at fault.Memory node rule answer same e = absurd e
+fault_at A fault.Memory node rule answer same e = absurd e
 
 pub told_same : {A : Type 0} (f : TypingFault) {answer other : Result A Broken} → answer ≡ other → TellsBroken f answer → TellsBroken f other
 told_same (fault.Broken node rule) e h = sym e ∙ h
