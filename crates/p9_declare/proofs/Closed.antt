@@ -58,10 +58,11 @@ after_by rules last (Ok made) s after t rule e f =
     subst P (same_value {A = TypeTree × Known} {E = Broken} (with_types made s) (made.0, record s { types = made.1 }) (t, after) refl e) (λ g. named_by last (rules s.tags s.names) made s (Some rule) g) f
 after_by rules last (Err broken) s after t rule e f = cc
 
-pub named_after : (rules : RulesBy) (last : ℕ) (by : LengthBy) (base : TypeTree) (steps : List Step) (s after : Known) (t : TypeTree) (rule : Rule)
-    → closed_over by base steps s ≡ Ok (t, after) → least (rules after.tags after.names (Some t)) ≡ Some rule
-    → closed_with last (rules s.tags s.names) by base steps s ≡ Err (at_node last rule)
-named_after rules last by base steps s after t rule e f = after_by rules last (closed s.tags by base steps s.types) s after t rule e f
+pub named_after : (rules : RulesBy) (last node : ℕ) (by : LengthBy) (base : TypeTree) (steps : List Step) (s after : Known) (t : TypeTree) (rule : Rule)
+    → node ≡ last → closed_over by base steps s ≡ Ok (t, after) → least (rules after.tags after.names (Some t)) ≡ Some rule
+    → closed_with last (rules s.tags s.names) by base steps s ≡ Err (at_node node rule)
+named_after rules last node by base steps s after t rule n e f =
+    after_by rules last (closed s.tags by base steps s.types) s after t rule e f ∙ ap (λ k. Err (at_node k rule)) (sym n)
 
 -- a step breaks a rule, and maybe the name another
 broken_by : (rules : Option TypeTree → List Rule) (last : ℕ) (r : Result Made Broken) (s : Known) (b : Broken) (o : Option Rule)
@@ -82,12 +83,14 @@ told_earlier (fault.Broken n r) (fault.Broken m q) last o answer other same e g 
     same_some : (x y : Broken) → Some x ≡ Some y → x ≡ y
     same_some x y h = cc
 
-pub named_before : (rules : Option TypeTree → List Rule) (last : ℕ) (by : LengthBy) (base : TypeTree) (steps : List Step) (s : Known) (f g : TypingFault) (o : Option Rule)
-    → TellsBroken f (closed_over by base steps s) → o ≡ least (rules None) → told_fault g ≡ option_map (λ b. earlier_of b last o) (told_fault f)
+pub named_before : (rules : Option TypeTree → List Rule) (last node : ℕ) (by : LengthBy) (base : TypeTree) (steps : List Step) (s : Known) (f g : TypingFault) (o : Option Rule)
+    → node ≡ last → TellsBroken f (closed_over by base steps s) → o ≡ least (rules None)
+    → told_fault g ≡ option_map (λ b. earlier_of b node o) (told_fault f)
     → TellsBroken g (closed_with last rules by base steps s)
-named_before rules last by base steps s f g o e h k =
+named_before rules last node by base steps s f g o n e h k =
     told_earlier f g last o (closed_over by base steps s) (closed_with last rules by base steps s)
-    (λ b i. broken_by rules last (closed s.tags by base steps s.types) s b o i h) e k
+    (λ b i. broken_by rules last (closed s.tags by base steps s.types) s b o i h) e
+    (k ∙ ap (λ m. option_map (λ b. earlier_of b m o) (told_fault f)) n)
 
 -- where no rule goes without the type, a step's is told
 pub named_unknown : (rules : Option TypeTree → List Rule) (last : ℕ) (by : LengthBy) (base : TypeTree) (steps : List Step) (s : Known) (f : TypingFault)

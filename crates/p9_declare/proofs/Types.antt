@@ -1,6 +1,7 @@
 -- Types as plain data, by what is asked of them.
-use Rattle.std.proofs.Common.{◌≡◌, ℕ, zero, suc, Bool, true, false, List, [], refl}
-use Rattle.p9_lang.specs.Types.{TypeTree, Void, Char, UChar, Short, UShort, Int, UInt, Long, ULong, Pointer, Array, Function, Tagged, Tags}
+use Rattle.std.proofs.Common.{◌≡◌, ℕ, zero, suc, Bool, true, false, List, [], ◌∷◌, length, refl, ap}
+use Rattle.p9_lang.specs.declared.types.CType.{CType}
+use Rattle.p9_lang.specs.Types.{TypeTree, Void, Char, UChar, Short, UShort, Int, UInt, Long, ULong, Pointer, Array, Function, Tagged, Tags, types_of, type_row, row_types}
 use Rattle.p9_lang.specs.Conversions.{is_array, same_type}
 use Rattle.p9_lang.specs.Declarators.{object_rules, sized_rules, same_so_far}
 use Rattle.p9_declare.specs.Types.{lacks_length}
@@ -86,3 +87,9 @@ same_beside_sized (Tagged i) new e = refl
 
 pub same_elements : (old new t u : TypeTree) (m : ℕ) → old ≡ Array t m → new ≡ Array u 0 → same_so_far old new ≡ same_type t u
 same_elements old new t u m e f = rw (e, f) refl
+
+-- PARAMETERS
+
+pub row_length : (types : List CType) → length (row_types (type_row (types_of types))) ≡ length types
+row_length [] = refl
+row_length (t ∷ types) = ap suc (row_length types)

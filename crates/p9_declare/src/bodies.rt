@@ -1,6 +1,6 @@
 // What is known as a function's body begins.
-ghost use Rattle.std.specs.Prelude.{◌≡◌, IfOk, OnOk};
-ghost use Rattle.p9_lang.specs.Types.{type_of};
+ghost use Rattle.std.specs.Prelude.{◌≡◌, length, IfOk, OnOk};
+ghost use Rattle.p9_lang.specs.Types.{type_of, types_of, type_row, row_types};
 ghost use Rattle.p9_lang.specs.Declaring.{names_of_list, open_body, parameter_count};
 ghost use Rattle.p9_lang.specs.Declarators.{own_list};
 ghost use Rattle.p9_scopes.specs.Seen.{level_of};
@@ -40,14 +40,21 @@ fn copied_level(alloc: Global, level: &NameLevel) -> Result<NameLevel, NoMemory>
     Ok(copy)
 }
 
+#[tactic(auto, using(crate::proofs::Types::row_length))]
+fn count_of(parameters: &[CType]) -> Result<u32, NoMemory>
+    ensures { IfOk result (λ count. count ≡ length (row_types (type_row (types_of parameters.now)))) }
+{
+    match u32::try_from(parameters.len()) {
+        Ok(count) => Ok(count),
+        Err(_) => Err(NoMemory),
+    }
+}
+
 fn parameter_count(ty: &CType) -> Result<u32, NoMemory>
     ensures { IfOk result (λ count. count ≡ parameter_count (type_of ty.now)) }
 {
     match signature_of(ty) {
-        Some((_, parameters)) => match u32::try_from(parameters.len()) {
-            Ok(count) => Ok(count),
-            Err(_) => Err(NoMemory),
-        },
+        Some((_, parameters)) => count_of(parameters),
         None => Ok(0),
     }
 }

@@ -65,7 +65,6 @@ fn close_step(
 }
 
 // The type of a whole declarator, and those of its steps' nodes.
-#[tactic(auto, using(crate::proofs::Inwards::step_on, crate::proofs::Inwards::step_off, crate::proofs::Inwards::no_step))]
 fn close_steps(
     known: &mut Known,
     alloc: Global,
