@@ -38,7 +38,6 @@ sized_object tags (Array t (suc n)) e = refl
 sized_object tags (Function t ts) e = refl
 sized_object tags (Tagged i) e = refl
 
-
 same_array_beside : (m : ℕ) (old new : TypeTree) → lacks_length new ≡ false → same_so_far (Array old m) new ≡ same_type (Array old m) new
 same_array_beside m old Void e = refl
 same_array_beside m old Char e = refl

@@ -70,7 +70,12 @@ fn body_level(alloc: Global, steps: &[Step]) -> Result<NameLevel, NoMemory>
 
 /// The body of a function of this type begins: the names of its own parameters go on round it, and
 /// its automatics are counted behind them.
-pub fn open_body(known: &mut Known, alloc: Global, ty: &CType, steps: &[Step]) -> Result<(), NoMemory>
+pub fn open_body(
+    known: &mut Known,
+    alloc: Global,
+    ty: &CType,
+    steps: &[Step],
+) -> Result<(), NoMemory>
     ensures { OnOk result (known_of known.new
         ≡ open_body (steps_of steps.now) (record (known_of known.old) { autos = parameter_count (type_of ty.now) })) }
 {

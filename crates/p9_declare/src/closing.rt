@@ -50,7 +50,15 @@ fn close_step(
     ensures { Judges type_of result (known_of known.new)
         (step_closed (told_by lengths.by) is_outermost (with_given lengths.given (told_step step.now)) (type_of ty.now) (known_of known.old)) }
 {
-    let made = shaped_with(alloc, known.tags(), lengths.by, lengths.given, is_outermost, step, ty);
+    let made = shaped_with(
+        alloc,
+        known.tags(),
+        lengths.by,
+        lengths.given,
+        is_outermost,
+        step,
+        ty,
+    );
     match made {
         Ok(made) => {
             known.set_type(step.number, copied(alloc, &made)?);

@@ -26,7 +26,12 @@ use p9_types::same_type;
 use std::alloc::Global;
 
 // The rule that the declaration before has the same type.
-fn length_rules(alloc: Global, known: &Known, name: &Ident, ty: &CType) -> Result<Option<Rule>, NoMemory>
+fn length_rules(
+    alloc: Global,
+    known: &Known,
+    name: &Ident,
+    ty: &CType,
+) -> Result<Option<Rule>, NoMemory>
     ensures { IfOk result (λ rule. told_least rule
         ≡ least (length_rules name.now (declared_before name.now (innermost (known_of known.now).names)) (Some (type_of ty.now)))) }
 {
@@ -64,7 +69,7 @@ fn close_again(
     }
 }
 
-#[tactic(auto, using(crate::proofs::Declared::length_given, crate::proofs::Declared::length_broken))]
+#[tactic(auto, using(crate::proofs::Declared::length_given))]
 fn with_named_length(
     known: &mut Known,
     alloc: Global,

@@ -154,7 +154,7 @@ fn close_object(
 }
 
 /// A name of an object, a function or a type is declared. The answer is its type.
-#[tactic(auto, using(crate::proofs::Declared::object_nameless, crate::proofs::Declared::object_declared, crate::proofs::Declared::object_broken))]
+#[tactic(auto, using(crate::proofs::Declared::object_nameless))]
 pub fn declare_object(
     known: &mut Known,
     alloc: Global,

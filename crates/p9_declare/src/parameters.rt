@@ -25,7 +25,11 @@ use p9_scopes::{Declared, Known};
 use std::alloc::Global;
 
 /// The rule that a name at the innermost level isn't declared again.
-pub(crate) fn new_name_rules(alloc: Global, known: &Known, name: &Ident) -> Result<Option<Rule>, NoMemory>
+pub(crate) fn new_name_rules(
+    alloc: Global,
+    known: &Known,
+    name: &Ident,
+) -> Result<Option<Rule>, NoMemory>
     ensures { IfOk result (λ rule. told_least rule
         ≡ least (parameter_rules name.now (in_level name.now (innermost (known_of known.now).names)))) }
 {

@@ -16,9 +16,7 @@ ghost use Rattle.p9_declare.specs.Types.{lacks_length, is_again};
 use crate::storage::Declaring;
 use p9_base::NoMemory;
 use p9_lang::{Bind, CType, Ident, Tags};
-use p9_operand::{
-    Rule, breaks_if, is_complete, is_function, is_within_limit, least_of_both,
-};
+use p9_operand::{Rule, breaks_if, is_complete, is_function, is_within_limit, least_of_both};
 use p9_scopes::{Declared, Known};
 use p9_types::{array_elements, same_type};
 use std::alloc::Global;
@@ -144,7 +142,8 @@ fn is_type_name(means: &Bind) -> bool
 {
     match means {
         Bind::TypeName(_) => true,
-        Bind::Nothing | Bind::Outer(_) | Bind::Static(_) | Bind::Auto(_) | Bind::EnumValue(_) => false,
+        Bind::Nothing | Bind::Outer(_) | Bind::Static(_) | Bind::Auto(_) | Bind::EnumValue(_) =>
+            false,
     }
 }
 
@@ -153,7 +152,8 @@ fn is_outer(means: &Bind) -> bool
 {
     match means {
         Bind::Outer(_) => true,
-        Bind::Nothing | Bind::Static(_) | Bind::Auto(_) | Bind::EnumValue(_) | Bind::TypeName(_) => false,
+        Bind::Nothing | Bind::Static(_) | Bind::Auto(_) | Bind::EnumValue(_) | Bind::TypeName(_) =>
+            false,
     }
 }
 

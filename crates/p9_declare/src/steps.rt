@@ -92,11 +92,8 @@ pub fn name_of(steps: &[Step]) -> Option<NameNode<'_>>
                 name,
                 number: step.number,
             }),
-            Shape::Keeps
-            | Shape::Points
-            | Shape::Sized(_)
-            | Shape::Unsized
-            | Shape::Takes { .. } => None,
+            Shape::Keeps | Shape::Points | Shape::Sized(_) | Shape::Unsized | Shape::Takes { .. } =>
+                None,
         },
     }
 }
@@ -109,7 +106,10 @@ pub fn own_list(steps: &[Step]) -> Option<&NameLevel>
     'steps: while let [step, after @ ..] = rest {
         match &step.shape {
             Shape::Names(_) | Shape::Keeps => rest = after,
-            Shape::Takes { parameters: _, level } => return Some(level),
+            Shape::Takes {
+                parameters: _,
+                level,
+            } => return Some(level),
             Shape::Points | Shape::Sized(_) | Shape::Unsized => return None,
         }
     }
