@@ -1,3 +1,4 @@
 mod Operands
 pub mod Leasts
+mod Conversions
 mod TestTags

@@ -3,7 +3,6 @@ ghost use Rattle.std.specs.Prelude.{◌≡◌, [], IfOk, slice_get};
 ghost use Rattle.p9_lang.specs.Types.{type_of, tags_of};
 ghost use Rattle.p9_lang.specs.TagRules.{NoneContainsItself};
 ghost use Rattle.p9_lang.specs.Expressions.{value_type, is_null, target_name, name_of_tag, conversion_rules};
-ghost use Rattle.p9_types.specs.Sizes.{SizesAreWithin};
 ghost use Rattle.p9_operand.specs.Least.{least};
 ghost use Rattle.p9_operand.specs.Told.{told_least, told_operand};
 
@@ -56,8 +55,7 @@ pub fn conversion_rules(
     tags: &Tags,
     zero: bool,
 ) -> Result<Option<Rule>, NoMemory>
-    requires ends { NoneContainsItself (tags_of tags.now.list) }
-    requires sizes { SizesAreWithin (tags_of tags.now.list) }
+    requires { NoneContainsItself (tags_of tags.now.list) }
     ensures { IfOk result (λ rule. told_least rule
         ≡ least (conversion_rules (tags_of tags.now.list) (type_of from.now) (type_of to.now) zero)) }
 {
@@ -75,8 +73,7 @@ pub fn value_rules(
     to: &CType,
     tags: &Tags,
 ) -> Result<Option<Rule>, NoMemory>
-    requires ends { NoneContainsItself (tags_of tags.now.list) }
-    requires sizes { SizesAreWithin (tags_of tags.now.list) }
+    requires { NoneContainsItself (tags_of tags.now.list) }
     ensures { IfOk result (λ rule. told_least rule
         ≡ least (conversion_rules (tags_of tags.now.list) (value_type (told_operand value.now))
         (type_of to.now) (is_null (told_operand value.now)))) }

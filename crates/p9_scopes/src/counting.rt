@@ -1,10 +1,9 @@
 // Numbers of statics and automatics, and what else is asked of what is known.
-ghost use Rattle.std.specs.Prelude.{◌≡◌, ◌+◌, true, IfOk, OnOk};
+ghost use Rattle.std.specs.Prelude.{◌≡◌, ◌+◌, IfOk, OnOk};
 ghost use Rattle.p9_lang.specs.Names.{is_among};
 ghost use Rattle.p9_lang.specs.Types.{members_of, tags_of};
 ghost use Rattle.p9_lang.specs.Scopes.{complete_tag, known_first};
 ghost use Rattle.p9_lang.specs.TagRules.{NoneContainsItself};
-ghost use Rattle.p9_types.specs.Sizes.{SizesAreWithin};
 ghost use Rattle.p9_scopes.specs.State.{known_of};
 
 use crate::known::Known;
@@ -98,13 +97,6 @@ impl Known {
         ensures ends { NoneContainsItself (tags_of result.now.list) }
     {
         self.tags.tags()
-    }
-
-    /// Whether no structure or union is larger than the limit.
-    pub fn is_within(&self) -> bool
-        ensures { result ≡ true → SizesAreWithin (known_of self.now).tags }
-    {
-        self.tags.is_within()
     }
 
     /// A structure or union is complete. Each member has a size in what is judged: else this is told

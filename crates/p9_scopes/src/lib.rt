@@ -16,6 +16,8 @@ mod tag;
 mod tag_level;
 mod tag_table;
 mod tagging;
+#[cfg(test)]
+mod tests;
 
 pub use declared::Declared;
 pub use known::Known;

@@ -1,11 +1,9 @@
 // The structures and unions that are known.
-ghost use Rattle.std.specs.Prelude.{◌≡◌, ◌≤◌, [], ◌∷◌, ◌++◌, ◌&&◌, true, false, None, IfOk, OnOk, OnErr, IsSomeAnd, slice_get};
-ghost use Rattle.p9_lang.specs.Types.{Tagged, type_of, members_of, tags_of};
-ghost use Rattle.p9_lang.specs.Layout.{layout, size_limit};
+ghost use Rattle.std.specs.Prelude.{◌≡◌, [], ◌∷◌, ◌++◌, true, false, None, IfOk, OnOk, OnErr, slice_get};
+ghost use Rattle.p9_lang.specs.Types.{type_of, members_of, tags_of};
 ghost use Rattle.p9_lang.specs.Scopes.{with_body};
 ghost use Rattle.p9_lang.specs.TagRules.{NoneContainsItself};
 ghost use Rattle.p9_lang.proofs.Bodies.{HasSize, HaveSizes};
-ghost use Rattle.p9_types.specs.Sizes.{SizesAreWithin};
 
 use p9_base::NoMemory;
 use p9_lang::{CType, Ident, Member, Tag, Tags};
@@ -18,8 +16,6 @@ use std::marker::Model;
 #[derive(Drop)]
 pub(crate) struct TagTable {
     tags: Tags,
-    // each size is within the limit
-    is_within: bool,
 }
 
 impl Model for TagTable {
@@ -35,7 +31,7 @@ impl Model for TagTable {
 
     ghost view = { λ t. t.tags.list };
 
-    ghost invariant = { λ t. IsSound t.tags.list t.is_within };
+    ghost invariant = { λ t. IsSound t.tags.list };
 }
 
 // Whether a type has a size.
@@ -63,21 +59,6 @@ fn all_have_sizes(alloc: Global, tags: &Tags, members: &[Member]) -> Result<bool
         rest = after;
     }
     Ok(true)
-}
-
-// Whether a structure or union has a size that is within the limit.
-#[tactic(auto, using(crate::proofs::Tables::fits_there, p9_types::proofs::Shapes::type_of_tagged))]
-fn is_within_limit(alloc: Global, tags: &Tags, number: u32) -> Result<bool, NoMemory>
-    requires { NoneContainsItself (tags_of tags.now.list) }
-    ensures { IfOk result (λ fits. fits ≡ true
-        → IsSomeAnd (layout (tags_of tags.now.list) (Tagged number)) (λ e. e.size ≤ size_limit)) }
-{
-    let ty = CType::Tagged(number);
-    match layout(alloc, &ty, tags) {
-        Ok(_) => Ok(true),
-        Err(TypeFault::BadConstant | TypeFault::Incomplete) => Ok(false),
-        Err(TypeFault::Memory) => Err(NoMemory),
-    }
 }
 
 #[tactic(auto, using(crate::proofs::Tables::with_new_body, crate::proofs::Tables::with_old_body, crate::proofs::Tables::with_no_tag))]
@@ -110,12 +91,6 @@ fn put_body(
     }
 }
 
-fn both(a: bool, b: bool) -> bool
-    ensures { result ≡ (a && b) }
-{
-    a && b
-}
-
 impl TagTable {
     #[tactic(auto, using(crate::proofs::Tables::first_sound))]
     pub(crate) fn new(alloc: Global) -> TagTable
@@ -125,7 +100,6 @@ impl TagTable {
             tags: Tags {
                 list: Items::new(alloc),
             },
-            is_within: true,
         }
     }
 
@@ -135,13 +109,6 @@ impl TagTable {
         ensures ends { NoneContainsItself (tags_of self.now) }
     {
         &self.tags
-    }
-
-    /// Whether no structure or union is larger than the limit.
-    pub(crate) fn is_within(&self) -> bool
-        ensures { result ≡ true → SizesAreWithin (tags_of self.now) }
-    {
-        self.is_within
     }
 
     /// One more, without a body.
@@ -172,18 +139,13 @@ impl TagTable {
         if !all_have_sizes(alloc, &self.tags, members.as_slice())? {
             return Err(NoMemory);
         }
-        let was_within = self.is_within;
-        self.is_within = false;
         put_body(alloc, &mut self.tags, number, members)?;
-        let fits = is_within_limit(alloc, &self.tags, number)?;
-        self.is_within = both(was_within, fits);
         Ok(())
     }
 
     pub(crate) fn into_tags(self) -> Tags
         ensures { result.list ≡ self }
     {
-        let TagTable { tags, is_within: _ } = self;
-        tags
+        self.tags
     }
 }

@@ -35,7 +35,7 @@ alike_repeated zero (suc n) a b e h = absurd (omega arith)
 alike_repeated (suc m) zero a b e h = absurd (omega arith)
 alike_repeated (suc m) (suc n) a b e h = record { sizes = alike_product a.size b.size (suc m) (suc n) h.sizes e; aligns = h.aligns }
 
-alike_offset : (u : Bool) (a b x y : Extent) → AreAlike a b → AreAlike x y → capped (member_offset u a x) ≡ capped (member_offset u b y)
+pub alike_offset : (u : Bool) (a b x y : Extent) → AreAlike a b → AreAlike x y → capped (member_offset u a x) ≡ capped (member_offset u b y)
 alike_offset false a b x y h k = alike_rounded a.size b.size x.align h.sizes ∙ ap (λ n. capped (rounded b.size n)) k.aligns
 alike_offset true a b x y h k = refl
 

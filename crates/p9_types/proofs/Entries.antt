@@ -1,9 +1,7 @@
 -- Levels as entries by number.
-use Rattle.std.proofs.Common.{◌≡◌, ℕ, Bool, true, false, IsTrue, nat_eq, ◌&&◌, if◌then◌else◌, List, [], ◌∷◌, ◌++◌, Some, append-nil, append_assoc, refl, sym, ap, subst, ◌∙◌}
-use Rattle.std.specs.List.{list_all}
+use Rattle.std.proofs.Common.{◌≡◌, ℕ, Bool, true, false, nat_eq, if◌then◌else◌, List, [], ◌∷◌, ◌++◌, Some, append-nil, append_assoc, refl, sym, ap, subst, ◌∙◌}
 use Rattle.std.specs.Map.{lookup}
 use Rattle.std.proofs.lemmas.Bool.{eqb-true}
-use Rattle.std.proofs.lemmas.List.Folds.{list_all-append}
 use Rattle.indexmap.specs.IndexMap.{insert_entry}
 use Rattle.p9_lang.specs.Members.{Part, Sought, Nowhere, One, Several}
 use Rattle.p9_types.specs.declared.level.Standing.{Standing}
@@ -15,33 +13,11 @@ use Rattle.p9_types.proofs.Tallies.{stands_append, together_none, together_sever
 -- ADDING
 
 pub adds_nothing : (L : List Part) → Adds L [] L
-adds_nothing L = record {
-  same = λ s. ap (stands_at s) (sym (append-nil L));
-  keeps = λ test h k. h;
-}
-
-pub both : (a b : Bool) → IsTrue (a && b) → IsTrue a × IsTrue b
-both true true h = (h, h)
-both true false h = cc
-both false b h = cc
-
-pub and_true : (a b : Bool) → IsTrue a → IsTrue b → IsTrue (a && b)
-and_true true b h k = k
-and_true false b h k = cc
-
-pub all_front : {A : Type 0} (test : A → Bool) (xs ys : List A) → IsTrue (list_all test (xs ++ ys)) → IsTrue (list_all test xs)
-all_front test xs ys h = (both (list_all test xs) (list_all test ys) (sym (list_all-append test xs ys) ∙ h)).0
-
-pub all_back : {A : Type 0} (test : A → Bool) (xs ys : List A) → IsTrue (list_all test (xs ++ ys)) → IsTrue (list_all test ys)
-all_back test xs ys h = (both (list_all test xs) (list_all test ys) (sym (list_all-append test xs ys) ∙ h)).1
-
-pub all_join : {A : Type 0} (test : A → Bool) (xs ys : List A) → IsTrue (list_all test xs) → IsTrue (list_all test ys) → IsTrue (list_all test (xs ++ ys))
-all_join test xs ys h k = list_all-append test xs ys ∙ and_true (list_all test xs) (list_all test ys) h k
+adds_nothing L = record { same = λ s. ap (stands_at s) (sym (append-nil L)) }
 
 pub adds_then : (L P M Q N : List Part) → Adds L P M → Adds M Q N → Adds L (P ++ Q) N
 adds_then L P M Q N a b = record {
   same = λ s. b.same s ∙ same_append M (L ++ P) Q Q a.same (λ t. refl) s ∙ ap (stands_at s) (append_assoc L P Q);
-  keeps = λ test h k. b.keeps test (a.keeps test h (all_front test P Q k)) (all_back test P Q k);
 }
 
 -- A STANDING
@@ -100,39 +76,10 @@ inserted_same (e ∷ es) s t = by (nat_eq s.tag e.0) refl (inserted_same es s)
         (λ u. refl) h t
         ∙ ap (stands_at t) (sym (append_assoc (entry_copies e) (spread_entries es) (copies_of s)))
 
-pub copies_all : (test : Part → Bool) (b c : Bool) (p : Part) → IsTrue (list_all test (copies b p)) → IsTrue (list_all test (copies c p))
-copies_all test true c p h = by c (both (test p) (test p && true) h).0
-  where
-    by : (c : Bool) → IsTrue (test p) → IsTrue (list_all test (copies c p))
-    by true k = and_true (test p) (test p && true) k (and_true (test p) true k refl)
-    by false k = and_true (test p) true k refl
-copies_all test false c p h = by c (both (test p) true h).0
-  where
-    by : (c : Bool) → IsTrue (test p) → IsTrue (list_all test (copies c p))
-    by true k = and_true (test p) (test p && true) k (and_true (test p) true k refl)
-    by false k = and_true (test p) true k refl
-
-inserted_keeps : (es : List (ℕ × Place)) (s : Standing) (test : Part → Bool) → IsTrue (list_all test (spread_entries es)) → IsTrue (list_all test (copies_of s))
-    → IsTrue (list_all test (spread_entries (insert_entry nat_eq es s.tag (place_with (lookup (nat_eq s.tag) es) s))))
-inserted_keeps [] s test h k = all_join test (copies_of s) [] k refl
-inserted_keeps (e ∷ es) s test h k = by (nat_eq s.tag e.0) (inserted_keeps es s test (all_back test (entry_copies e) (spread_entries es) h) k)
-  where
-    by : (b : Bool) → IsTrue (list_all test (spread_entries (insert_entry nat_eq es s.tag (place_with (lookup (nat_eq s.tag) es) s))))
-        → IsTrue (list_all test (spread_entries (if b then (e.0, place_with (if b then Some e.1 else lookup (nat_eq s.tag) es) s) ∷ es
-        else e ∷ insert_entry nat_eq es s.tag (place_with (if b then Some e.1 else lookup (nat_eq s.tag) es) s))))
-    by true r =
-        all_join test (copies true (record { offset = e.1.offset; tag = e.0 })) (spread_entries es)
-        (copies_all test e.1.several true (record { offset = e.1.offset; tag = e.0 }) (all_front test (entry_copies e) (spread_entries es) h))
-        (all_back test (entry_copies e) (spread_entries es) h)
-    by false r = all_join test (entry_copies e) (spread_entries (insert_entry nat_eq es s.tag (place_with (lookup (nat_eq s.tag) es) s))) (all_front test (entry_copies e) (spread_entries es) h) r
-
 pub adds_standing : (es later : List (ℕ × Place)) (s : Standing) (p : Place) → later ≡ insert_entry nat_eq es s.tag p → p ≡ place_with (lookup (nat_eq s.tag) es) s
     → Adds (spread_entries es) (copies_of s) (spread_entries later)
 adds_standing es later s p e q =
-    subst (λ l. Adds (spread_entries es) (copies_of s) (spread_entries l)) (sym (e ∙ ap (insert_entry nat_eq es s.tag) q)) (record {
-      same = inserted_same es s;
-      keeps = inserted_keeps es s;
-    })
+    subst (λ l. Adds (spread_entries es) (copies_of s) (spread_entries l)) (sym (e ∙ ap (insert_entry nat_eq es s.tag) q)) (record { same = inserted_same es s })
 
 -- A LEVEL THAT IS TAKEN APART
 
@@ -158,20 +105,10 @@ goes_over ss later es rest e level p q a =
           ∙ ap (together (stands_at s (spread ss))) (same_swap (entry_copies e) (spread_entries rest) s ∙ ap (stands_at s) (sym taken))
           ∙ sym (stands_append s (spread ss) (spread_entries es))
           ∙ a.same s;
-      keeps = λ test h k.
-          let all : IsTrue (list_all test (spread ss ++ spread_entries es)) = a.keeps test h k in
-          let ends : IsTrue (list_all test (spread_entries rest ++ entry_copies e)) = subst (λ l. IsTrue (list_all test l)) taken (all_back test (spread ss) (spread_entries es) all) in
-          all_join test (spread later) (spread_entries rest)
-          (subst (λ l. IsTrue (list_all test l)) (sym given)
-          (all_join test (spread ss) (entry_copies e) (all_front test (spread ss) (spread_entries es) all) (all_back test (spread_entries rest) (entry_copies e) ends)))
-          (all_front test (spread_entries rest) (entry_copies e) ends);
     }
 
 pub all_over : (ss : List Standing) (es : List (ℕ × Place)) (level : List Part) → es ≡ [] → Adds [] level (spread ss ++ spread_entries es) → Adds [] level (spread ss)
 all_over ss es level e a = subst (Adds [] level) (ap (λ l. spread ss ++ spread_entries l) e ∙ append-nil (spread ss)) a
 
 pub none_over : (ss : List Standing) (es : List (ℕ × Place)) → ss ≡ [] → Adds [] (spread_entries es) (spread ss ++ spread_entries es)
-none_over ss es e = subst (λ l. Adds [] (spread_entries es) (spread l ++ spread_entries es)) (sym e) (record {
-  same = λ s. refl;
-  keeps = λ test h k. k;
-})
+none_over ss es e = subst (λ l. Adds [] (spread_entries es) (spread l ++ spread_entries es)) (sym e) (record { same = λ s. refl })

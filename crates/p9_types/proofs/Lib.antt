@@ -8,10 +8,13 @@ mod Advancing
 mod TagsAt
 mod Laid
 mod SampleTypes
+mod Mapping
+mod Cutting
 mod Tallies
 mod Descent
 mod Pruning
 mod Searching
+mod Blindness
 mod Entries
 mod Placings
 mod Unnamed

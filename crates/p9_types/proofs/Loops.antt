@@ -1,21 +1,22 @@
 -- Searches level by level, as loops over levels.
-use Rattle.std.proofs.Common.{◌≡◌, ◌≤◌, ◌<◌, ℕ, zero, suc, ◌+◌, ◌-◌, nat_le, nat_eq, Bool, true, false, ◌||◌, ◌&&◌, IsTrue, if◌then◌else◌, List, [], ◌∷◌, ◌++◌, length, slice_get, Option, Some, None, append-nil, refl, sym, ap, subst, ◌∙◌, arith}
-use Rattle.std.specs.List.{flat_map, list_all}
+use Rattle.std.proofs.Common.{◌≡◌, ◌<◌, ℕ, zero, suc, ◌-◌, nat_eq, Bool, true, false, ◌||◌, if◌then◌else◌, List, [], ◌∷◌, ◌++◌, length, map, Option, append-nil, refl, sym, ap, subst, ◌∙◌, arith}
+use Rattle.std.specs.List.{flat_map}
 use Rattle.std.proofs.lemmas.Bool.Decides.{nat_tests}
 use Rattle.p9_lang.specs.declared.types.Tag.{Tag}
-use Rattle.p9_lang.specs.Types.{Tagged, MemberTree, TagTree, Tags, tags_of}
-use Rattle.p9_lang.specs.Layout.{size_of, size_limit, layout, size_in, body_extent, members_extent}
+use Rattle.p9_lang.specs.Types.{Tags, tags_of}
 use Rattle.p9_lang.specs.Members.{Part, Sought, Nowhere, One, Several, or_deeper, offset_if, sought, inner_parts, find_substructure, whole}
 use Rattle.p9_types.specs.declared.level.Standing.{Standing}
-use Rattle.p9_types.specs.Levels.{tally, stands_at, copies, together, unmet, Adds}
-use Rattle.p9_types.specs.Sizes.{SizesAreWithin, ends_within}
+use Rattle.p9_types.specs.Capping.{capped}
+use Rattle.p9_types.specs.Offsets.{kept_offset, kept_if, cut_inner}
+use Rattle.p9_types.specs.Sightings.{sought_map}
+use Rattle.p9_types.specs.Levels.{tally, copies, together, unmet, Adds}
 use Rattle.p9_types.specs.Standings.{part_of, copies_of, spread, stands_in}
-use Rattle.p9_lang.specs.TagRules.{NoneContainsItself}
-use Rattle.p9_lang.proofs.Layouts.{layout_is_that_of_members}
-use Rattle.p9_types.proofs.Placings.{sized}
+use Rattle.p9_types.proofs.Mapping.{sought_mapped}
+use Rattle.p9_types.proofs.Cutting.{IsBlind, kept_cut}
 use Rattle.p9_types.proofs.Tallies.{IsUniform}
 use Rattle.p9_types.proofs.Pruning.{among}
-use Rattle.p9_types.proofs.Searching.{Covers, nothing_met, next_covers, next_sought}
+use Rattle.p9_types.proofs.Searching.{Covers, nothing_met}
+use Rattle.p9_types.proofs.Blindness.{cut_covers, cut_sought}
 
 tally_bare : {A : Type 0} (xs : List A) → tally xs ≡ Nowhere → xs ≡ []
 tally_bare [] e = refl
@@ -40,12 +41,12 @@ pub record Searches {A : Type 0} (tags : Tags) (has : Part → List A) (goal : S
   pub finds : sought depth tags has level ≡ goal
 
 pub searches_next : {A : Type 0} (tags : Tags) (has : Part → List A) (goal : Sought A) (depth next : ℕ) (met later : ℕ → Bool) (level : List Standing) (M : List Part)
-    → IsUniform has → Searches tags has goal depth met (spread level) → 0 < depth → next ≡ depth - 1 → tally (flat_map has (spread level)) ≡ Nowhere
-    → ((i : ℕ) → later i ≡ (stands_in i level || met i)) → Adds [] (unmet later (flat_map (inner_parts tags) (spread level))) M → Searches tags has goal next later M
-searches_next tags has goal depth next met later level M u s lt e none meets a = record {
-  covers = next_covers tags has u met later (spread level) s.covers bare meets_all M a.same;
+    → IsUniform has → IsBlind has → Searches tags has goal depth met (spread level) → 0 < depth → next ≡ depth - 1 → tally (flat_map has (spread level)) ≡ Nowhere
+    → ((i : ℕ) → later i ≡ (stands_in i level || met i)) → Adds [] (unmet later (flat_map (cut_inner tags) (spread level))) M → Searches tags has goal next later M
+searches_next tags has goal depth next met later level M u blind s lt e none meets a = record {
+  covers = cut_covers tags has u blind met later (spread level) s.covers bare meets_all M a.same;
   finds =
-      sym (next_sought tags has u met later (spread level) s.covers bare meets_all next M a.same)
+      sym (cut_sought tags has u blind met later (spread level) s.covers bare meets_all M a.same next)
       ∙ ap (λ d. sought d tags has (spread level)) deeper ∙ s.finds;
 }
   where
@@ -102,69 +103,48 @@ pub length_tags : (ts : List Tag) → length (tags_of ts) ≡ length ts
 length_tags [] = refl
 length_tags (t ∷ ts) = ap suc (length_tags ts)
 
--- a whole structure ends within the limit, where each has a size that is
-as_test : (n : ℕ) → n ≤ 16777216 → IsTrue (nat_le n size_limit)
-as_test n e = grind (arith, nat_tests)
-
-pub whole_ends : (tags : Tags) (i : ℕ) (none level : List Standing) → size_of tags (Tagged i) ≤ 16777216 → none ≡ []
-    → level ≡ none ++ record { tag = i; offset = 0; several = false } ∷ [] → IsTrue (list_all (ends_within tags) (spread level))
-whole_ends tags i none level le e f =
-    subst (λ l. IsTrue (list_all (ends_within tags) (spread l))) (sym (f ∙ ap (λ l. l ++ record { tag = i; offset = 0; several = false } ∷ []) e))
-    (subst (λ b. IsTrue (b && true)) (sym (as_test (0 + size_of tags (Tagged i)) (omega arith))) refl)
-
-pub all_small : (tags : Tags) → NoneContainsItself tags → SizesAreWithin tags → (i : ℕ) → size_of tags (Tagged i) ≤ 16777216
-all_small tags ends sizes i = by_tag (slice_get tags i) refl
-  where
-    bare : layout tags (Tagged i) ≡ None → size_of tags (Tagged i) ≤ 16777216
-    bare e = let z = ap size_in e in omega arith
-
-    by_body : (tag : TagTree) → slice_get tags i ≡ Some tag → (o : Option (List MemberTree)) → tag.members ≡ o → size_of tags (Tagged i) ≤ 16777216
-    by_body tag e None f =
-        bare (layout_is_that_of_members tags i ends ∙ ap (body_extent (λ j. layout tags (Tagged j))) e ∙ ap (members_extent (λ j. layout tags (Tagged j)) tag.is_union) f)
-    by_body tag e (Some ms) f =
-        let r = sized tags i tag ms sizes e f in
-        let z = ap size_in r.1 in
-        let le = r.2 in
-        omega arith
-
-    by_tag : (o : Option TagTree) → slice_get tags i ≡ o → size_of tags (Tagged i) ≤ 16777216
-    by_tag None e = bare (layout_is_that_of_members tags i ends ∙ ap (body_extent (λ j. layout tags (Tagged j))) e)
-    by_tag (Some tag) e = by_body tag e tag.members refl
-
 -- A SEARCH THAT BEGINS BELOW THE FIRST LEVEL
 
-pub offset_uniform : (j : ℕ) → IsUniform (offset_if j)
-offset_uniform j p q e h = by (nat_eq p.tag j) refl h
+kept_uniform : (j : ℕ) → IsUniform (kept_if j)
+kept_uniform j p q e h = by (nat_eq p.tag j) refl h
   where
-    by : (b : Bool) → nat_eq p.tag j ≡ b → (if b then p.offset ∷ [] else []) ≡ [] → offset_if j q ≡ []
+    by : (b : Bool) → nat_eq p.tag j ≡ b → map kept_offset (if b then p.offset ∷ [] else []) ≡ [] → kept_if j q ≡ []
     by true f g = cc
-    by false f g = ap (λ b. if b then q.offset ∷ [] else []) (ap (λ t. nat_eq t j) (sym e) ∙ f)
+    by false f g = ap (λ b. map kept_offset (if b then q.offset ∷ [] else [])) (ap (λ t. nat_eq t j) (sym e) ∙ f)
 
-not_first : (i j : ℕ) → nat_eq i j ≡ false → flat_map (offset_if j) (whole i ∷ []) ≡ []
-not_first i j e = ap (λ b. (if b then 0 ∷ [] else []) ++ []) e
+kept_blind : (j : ℕ) → IsBlind (kept_if j)
+kept_blind j p = by (nat_eq p.tag j)
+  where
+    by : (b : Bool) → map kept_offset (if b then capped p.offset ∷ [] else []) ≡ map kept_offset (if b then p.offset ∷ [] else [])
+    by true = ap (λ k. k ∷ []) (kept_cut p.offset)
+    by false = refl
+
+not_first : (i j : ℕ) → nat_eq i j ≡ false → flat_map (kept_if j) (whole i ∷ []) ≡ []
+not_first i j e = ap (λ b. map kept_offset (if b then 0 ∷ [] else []) ++ []) e
 
 pub starts_below : (tags : Tags) (depth i j : ℕ) (met : ℕ → Bool) (none level : List Standing) → nat_eq i j ≡ false → none ≡ []
     → level ≡ none ++ record { tag = i; offset = 0; several = false } ∷ [] → depth ≡ length tags → ((k : ℕ) → met k ≡ false)
-    → Searches tags (offset_if j) (find_substructure tags i j) (suc depth) met (spread level) × (stands_at j (spread level) ≡ Nowhere)
+    → Searches tags (kept_if j) (sought_map kept_offset (find_substructure tags i j)) (suc depth) met (spread level) × (tally (flat_map (kept_if j) (spread level)) ≡ Nowhere)
 starts_below tags depth i j met none level a e f g h = (
   record {
-    covers = nothing_met tags (offset_if j) met (spread level) h;
-    finds = ap (λ l. sought (suc depth) tags (offset_if j) l) first
-        ∙ ap (λ l. or_deeper l (sought depth tags (offset_if j) (inner_parts tags (whole i) ++ []))) (not_first i j a)
-        ∙ ap (λ l. sought depth tags (offset_if j) l) (append-nil (inner_parts tags (whole i)))
-        ∙ ap (λ d. sought d tags (offset_if j) (inner_parts tags (whole i))) g;
+    covers = nothing_met tags (kept_if j) met (spread level) h;
+    finds = ap (λ l. sought (suc depth) tags (kept_if j) l) first
+        ∙ ap (λ l. or_deeper l (sought depth tags (kept_if j) (inner_parts tags (whole i) ++ []))) (not_first i j a)
+        ∙ ap (λ l. sought depth tags (kept_if j) l) (append-nil (inner_parts tags (whole i)))
+        ∙ ap (λ d. sought d tags (kept_if j) (inner_parts tags (whole i))) g
+        ∙ sought_mapped kept_offset (length tags) tags (offset_if j) (inner_parts tags (whole i));
   },
-  ap (stands_at j) first ∙ ap tally (not_first i j a),
+  ap (λ l. tally (flat_map (kept_if j) l)) first ∙ ap tally (not_first i j a),
 )
   where
     first : spread level ≡ whole i ∷ []
     first = ap spread (f ∙ ap (λ l. l ++ record { tag = i; offset = 0; several = false } ∷ []) e)
 
-pub ends_below : (tags : Tags) (j : ℕ) (goal : Sought ℕ) (depth : ℕ) (met : ℕ → Bool) (level : List Part) → Searches tags (offset_if j) goal (suc depth) met level
-    → depth ≡ 0 → stands_at j level ≡ Nowhere → goal ≡ Nowhere
+pub ends_below : (tags : Tags) (j : ℕ) (goal : Sought (Option ℕ)) (depth : ℕ) (met : ℕ → Bool) (level : List Part) → Searches tags (kept_if j) goal (suc depth) met level
+    → depth ≡ 0 → tally (flat_map (kept_if j) level) ≡ Nowhere → goal ≡ Nowhere
 ends_below tags j goal depth met level s e none =
-    sym s.finds ∙ ap (λ l. or_deeper l (sought depth tags (offset_if j) (flat_map (inner_parts tags) level))) (tally_bare (flat_map (offset_if j) level) none)
-    ∙ ap (λ d. sought d tags (offset_if j) (flat_map (inner_parts tags) level)) e
+    sym s.finds ∙ ap (λ l. or_deeper l (sought depth tags (kept_if j) (flat_map (inner_parts tags) level))) (tally_bare (flat_map (kept_if j) level) none)
+    ∙ ap (λ d. sought d tags (kept_if j) (flat_map (inner_parts tags) level)) e
 
 pub goes_on : {A : Type 0} (tags : Tags) (has : Part → List A) (goal : Sought A) (depth next : ℕ) (met : ℕ → Bool) (level : List Part) → Searches tags has goal depth met level
     → 0 < depth → next ≡ depth - 1 → Searches tags has goal (suc next) met level
@@ -173,29 +153,29 @@ goes_on tags has goal depth next met level s lt e = subst (λ d. Searches tags h
     deeper : depth ≡ suc next
     deeper = omega arith
 
-pub stands_here : (j : ℕ) (s : Standing) (found : Sought ℕ) → nat_eq s.tag j ≡ true
-    → found ≡ (if s.several then together (One s.offset) (One s.offset) else One s.offset) → found ≡ stands_at j (copies_of s)
-stands_here j s found e f = f ∙ by s.several
+pub stands_here : (j : ℕ) (s : Standing) (found : Sought (Option ℕ)) (o : Option ℕ) → nat_eq s.tag j ≡ true → o ≡ kept_offset s.offset
+    → found ≡ (if s.several then together (One o) (One o) else One o) → found ≡ tally (flat_map (kept_if j) (copies_of s))
+stands_here j s found o e k f = f ∙ ap (λ q. if s.several then together (One q) (One q) else One q) k ∙ by s.several
   where
-    by : (b : Bool) → (if b then together (One s.offset) (One s.offset) else One s.offset) ≡ stands_at j (copies b (part_of s))
-    by true = sym (ap (λ c. tally ((if c then s.offset ∷ [] else []) ++ ((if c then s.offset ∷ [] else []) ++ []))) e)
-    by false = sym (ap (λ c. tally ((if c then s.offset ∷ [] else []) ++ [])) e)
+    by : (b : Bool) → (if b then together (One (kept_offset s.offset)) (One (kept_offset s.offset)) else One (kept_offset s.offset)) ≡ tally (flat_map (kept_if j) (copies b (part_of s)))
+    by true = sym (ap (λ c. tally (map kept_offset (if c then s.offset ∷ [] else []) ++ (map kept_offset (if c then s.offset ∷ [] else []) ++ []))) e)
+    by false = sym (ap (λ c. tally (map kept_offset (if c then s.offset ∷ [] else []) ++ [])) e)
 
-pub stands_elsewhere : (j : ℕ) (s : Standing) → nat_eq s.tag j ≡ false → Nowhere ≡ stands_at j (copies_of s)
+pub stands_elsewhere : (j : ℕ) (s : Standing) → nat_eq s.tag j ≡ false → Nowhere ≡ tally (flat_map (kept_if j) (copies_of s))
 stands_elsewhere j s e = by s.several
   where
-    by : (b : Bool) → Nowhere ≡ stands_at j (copies b (part_of s))
-    by true = sym (ap (λ c. tally ((if c then s.offset ∷ [] else []) ++ ((if c then s.offset ∷ [] else []) ++ []))) e)
-    by false = sym (ap (λ c. tally ((if c then s.offset ∷ [] else []) ++ [])) e)
+    by : (b : Bool) → Nowhere ≡ tally (flat_map (kept_if j) (copies b (part_of s)))
+    by true = sym (ap (λ c. tally (map kept_offset (if c then s.offset ∷ [] else []) ++ (map kept_offset (if c then s.offset ∷ [] else []) ++ []))) e)
+    by false = sym (ap (λ c. tally (map kept_offset (if c then s.offset ∷ [] else []) ++ [])) e)
 
 -- the level below one that has nothing
-pub below : (tags : Tags) (j : ℕ) (goal : Sought ℕ) (depth : ℕ) (met later : ℕ → Bool) (list level : List Standing) (M : List Part)
-    → Searches tags (offset_if j) goal (suc depth) met (spread level) → stands_at j (spread level) ≡ Nowhere → list ≡ level
-    → ((i : ℕ) → later i ≡ (stands_in i list || met i)) → Adds [] (unmet later (flat_map (inner_parts tags) (spread list))) M → Searches tags (offset_if j) goal depth later M
+pub below : (tags : Tags) (j : ℕ) (goal : Sought (Option ℕ)) (depth : ℕ) (met later : ℕ → Bool) (list level : List Standing) (M : List Part)
+    → Searches tags (kept_if j) goal (suc depth) met (spread level) → tally (flat_map (kept_if j) (spread level)) ≡ Nowhere → list ≡ level
+    → ((i : ℕ) → later i ≡ (stands_in i list || met i)) → Adds [] (unmet later (flat_map (cut_inner tags) (spread list))) M → Searches tags (kept_if j) goal depth later M
 below tags j goal depth met later list level M s none e meets a =
-    searches_next tags (offset_if j) goal (suc depth) depth met later level M (offset_uniform j) s (omega arith) (omega arith) none
+    searches_next tags (kept_if j) goal (suc depth) depth met later level M (kept_uniform j) (kept_blind j) s (omega arith) (omega arith) none
     (λ i. meets i ∙ ap (λ ss. stands_in i ss || met i) e)
-    (subst (λ ss. Adds [] (unmet later (flat_map (inner_parts tags) (spread ss))) M) e a)
+    (subst (λ ss. Adds [] (unmet later (flat_map (cut_inner tags) (spread ss))) M) e a)
 
 pub unequal : (i j : ℕ) → (i ≡ j → ⊥) → nat_eq i j ≡ false
 unequal i j f = grind (arith, nat_tests)

@@ -1,12 +1,12 @@
 -- Members by their names, as they are found at a level.
-use Rattle.std.proofs.Common.{◌≡◌, ◌⊎◌, inl, inr, ℕ, zero, suc, ◌+◌, nat_eq, Bool, true, false, ◌&&◌, if◌then◌else◌, List, [], ◌∷◌, ◌++◌, map, length, slice_get, Option, Some, None, append-nil, refl, sym, ap, subst, ◌∙◌}
+use Rattle.std.proofs.Common.{◌≡◌, ◌⊎◌, inl, inr, ℕ, ◌+◌, nat_eq, Bool, true, false, ◌&&◌, if◌then◌else◌, List, [], ◌∷◌, ◌++◌, map, length, slice_get, Option, Some, None, append-nil, refl, sym, ap, subst, ◌∙◌, arith}
 use Rattle.std.specs.List.{flat_map, filter}
 use Rattle.std.specs.Cmp.Lexicographic.{pointwise}
 use Rattle.std.proofs.lemmas.Grind.{flat_map-append}
 use Rattle.p9_lang.specs.Names.{same_name}
 use Rattle.p9_lang.specs.declared.types.Tag.{Tag}
 use Rattle.p9_lang.specs.Types.{MemberTree, TagTree, Tags, tags_of}
-use Rattle.p9_lang.specs.Members.{Part, Placed, FoundMember, Sought, Nowhere, One, Several, or_deeper, sought, inner_parts, found_member, named_members, placed, found_of, find_in_tag, find_in_body, find_member, whole}
+use Rattle.p9_lang.specs.Members.{Part, Placed, FoundMember, Sought, Nowhere, One, Several, sought, found_member, named_members, placed, found_of, find_in_tag, find_in_body, find_member, whole}
 use Rattle.p9_types.specs.declared.finding.MemberPlace.{MemberPlace}
 use Rattle.p9_types.specs.declared.finding.Found.{Found}
 use Rattle.p9_types.specs.declared.finding.Found.TheVariants as found
@@ -15,8 +15,12 @@ use Rattle.p9_types.specs.declared.sought.Sought.TheVariants as variants
 use Rattle.p9_types.specs.declared.level.Standing.{Standing}
 use Rattle.p9_types.specs.Levels.{tally, together, copies}
 use Rattle.p9_types.specs.Standings.{copies_of, spread}
-use Rattle.p9_types.specs.Sightings.{told_sought, place_of, named_among, named_places, has_body, has_members, without_type}
+use Rattle.p9_types.specs.Capping.{capped}
+use Rattle.p9_types.specs.Offsets.{kept_offset, cut_part, cut_placed}
+use Rattle.p9_types.specs.Sightings.{told_sought, sought_map, place_of, named_among, named_places, has_body, has_members, without_type}
 use Rattle.p9_types.proofs.Tallies.{IsUniform, tally_append, together_assoc, together_none}
+use Rattle.p9_types.proofs.Mapping.{sought_mapped}
+use Rattle.p9_types.proofs.Cutting.{IsBlind, kept_alike, kept_cut}
 
 pub names_by_bytes : (xs ys : List ℕ) (b : Bool) → b ≡ pointwise nat_eq xs ys → b ≡ same_name xs ys
 names_by_bytes xs ys b e = e ∙ same xs ys
@@ -29,10 +33,11 @@ names_by_bytes xs ys b e = e ∙ same xs ys
 
 -- AMONG MEMBERS
 
-pub one_named : (x : List ℕ) (p : Part) (m : Placed) (o n : ℕ) → same_name x m.name ≡ true → o ≡ p.offset + m.offset → n ≡ m.number
+pub one_named : (x : List ℕ) (p : Part) (m : Placed) (k n : ℕ) (o : Option ℕ) → same_name x m.name ≡ true → o ≡ kept_offset k → k ≡ capped (p.offset + m.offset) → n ≡ m.number
     → One (record { offset = o; tag = p.tag; member = n }) ≡ tally (named_among x p (m ∷ []))
-one_named x p m o n e f g =
-    ap (λ k. One (record { offset = k; tag = p.tag; member = n })) f ∙ ap (λ k. One (record { offset = p.offset + m.offset; tag = p.tag; member = k })) g
+one_named x p m k n o e f h g =
+    ap (λ q. One (record { offset = q; tag = p.tag; member = n })) (f ∙ ap kept_offset h ∙ kept_cut (p.offset + m.offset))
+    ∙ ap (λ q. One (record { offset = kept_offset (p.offset + m.offset); tag = p.tag; member = q })) g
     ∙ sym (ap (λ b. tally (map place_of (map (found_member p) (if b then m ∷ [] else [])))) e)
 
 pub none_named : (x : List ℕ) (p : Part) (m : Placed) → same_name x m.name ≡ false → Nowhere ≡ tally (named_among x p (m ∷ []))
@@ -44,6 +49,24 @@ named_cons x p m ms = by (same_name x m.name)
     by : (b : Bool) → map place_of (map (found_member p) (if b then m ∷ filter (λ k. same_name x k.name) ms else filter (λ k. same_name x k.name) ms))
         ≡ map place_of (map (found_member p) (if b then m ∷ [] else [])) ++ named_among x p ms
     by true = refl
+    by false = refl
+
+-- members told with their offsets cut off
+pub named_cut : (x : List ℕ) (p : Part) (ms : List Placed) → named_among x p (map cut_placed ms) ≡ named_among x p ms
+named_cut x p [] = refl
+named_cut x p (m ∷ ms) =
+    named_cons x p (cut_placed m) (map cut_placed ms)
+    ∙ ap (λ l. l ++ named_among x p (map cut_placed ms)) (by (same_name x m.name))
+    ∙ ap (λ l. named_among x p (m ∷ []) ++ l) (named_cut x p ms)
+    ∙ sym (named_cons x p m ms)
+  where
+    sums : (o n : ℕ) → capped (o + capped n) ≡ capped (o + n)
+    sums o n = omega arith
+
+    by : (b : Bool) → map place_of (map (found_member p) (if b then cut_placed m ∷ [] else [])) ≡ map place_of (map (found_member p) (if b then m ∷ [] else []))
+    by true =
+        ap (λ k. record { offset = k; tag = p.tag; member = m.number } ∷ [])
+        (kept_alike (p.offset + capped m.offset) (p.offset + m.offset) (sums p.offset m.offset))
     by false = refl
 
 -- with the first of a list that is gone through
@@ -81,32 +104,6 @@ pub level_last : {A : Type 0} (f : Part → List A) (ss : List Standing) (found 
 level_last f ss found all e h = sym (together_none found) ∙ ap (λ l. together found (tally (flat_map f (spread l)))) (sym e) ∙ h
 
 -- WITHOUT THEIR TYPES
-
-abbrev sought_map : {A B : Type 0} → (A → B) → Sought A → Sought B
-sought_map g Nowhere = Nowhere
-sought_map g (One x) = One (g x)
-sought_map g Several = Several
-
-or_deeper_map : {A B : Type 0} (g : A → B) (xs : List A) (s : Sought A) → or_deeper (map g xs) (sought_map g s) ≡ sought_map g (or_deeper xs s)
-or_deeper_map g [] s = refl
-or_deeper_map g (x ∷ []) s = refl
-or_deeper_map g (x ∷ (y ∷ ys)) s = refl
-
-map_append : {A B : Type 0} (g : A → B) (xs ys : List A) → map g (xs ++ ys) ≡ map g xs ++ map g ys
-map_append g [] ys = refl
-map_append g (x ∷ xs) ys = ap (λ l. g x ∷ l) (map_append g xs ys)
-
-map_flat : {X A B : Type 0} (g : A → B) (f : X → List A) (xs : List X) → flat_map (λ x. map g (f x)) xs ≡ map g (flat_map f xs)
-map_flat g f [] = refl
-map_flat g f (x ∷ xs) = ap (λ l. map g (f x) ++ l) (map_flat g f xs) ∙ sym (map_append g (f x) (flat_map f xs))
-
-sought_mapped : {A B : Type 0} (g : A → B) (d : ℕ) (tags : Tags) (has : Part → List A) (L : List Part)
-    → sought d tags (λ p. map g (has p)) L ≡ sought_map g (sought d tags has L)
-sought_mapped g zero tags has L = refl
-sought_mapped g (suc d) tags has L =
-    ap (λ l. or_deeper l (sought d tags (λ p. map g (has p)) (flat_map (inner_parts tags) L))) (map_flat g has L)
-    ∙ ap (or_deeper (map g (flat_map has L))) (sought_mapped g d tags has (flat_map (inner_parts tags) L))
-    ∙ or_deeper_map g (flat_map has L) (sought d tags has (flat_map (inner_parts tags) L))
 
 abbrev pub told_found : Sought MemberPlace → Found
 told_found Nowhere = found.Missing
@@ -172,3 +169,16 @@ pub names_uniform : (tags : Tags) (x : List ℕ) → IsUniform (named_places tag
 names_uniform tags x p q e h =
     let none : filter (λ m. same_name x m.name) (placed tags p.tag) ≡ [] = map_nil (found_member p) _ (map_nil place_of _ h) in
     ap (λ l. map place_of (map (found_member q) l)) (subst (λ t. filter (λ m. same_name x m.name) (placed tags t) ≡ []) e none)
+
+pub names_blind : (tags : Tags) (x : List ℕ) → IsBlind (named_places tags x)
+names_blind tags x p = by (filter (λ m. same_name x m.name) (placed tags p.tag))
+  where
+    sums : (o n : ℕ) → capped (capped o + n) ≡ capped (o + n)
+    sums o n = omega arith
+
+    by : (ms : List Placed) → map place_of (map (found_member (cut_part p)) ms) ≡ map place_of (map (found_member p) ms)
+    by [] = refl
+    by (m ∷ ms) =
+        ap (λ k. record { offset = k; tag = p.tag; member = m.number } ∷ map place_of (map (found_member (cut_part p)) ms))
+        (kept_alike (capped p.offset + m.offset) (p.offset + m.offset) (sums p.offset m.offset))
+        ∙ ap (λ l. place_of (found_member p m) ∷ l) (by ms)

@@ -1,12 +1,11 @@
 -- What the tests' structures are.
-use Rattle.std.proofs.Common.{◌≡◌, ℕ, zero, suc, Bool, true, false, slice_get, List, [], ◌∷◌, ◌++◌, Some, codes, sym, ap, ◌∙◌, subst, arith}
+use Rattle.std.proofs.Common.{◌≡◌, ℕ, zero, suc, Bool, false, List, [], ◌∷◌, ◌++◌, Some, codes, sym, ap, ◌∙◌, subst, arith}
 use Rattle.p9_lang.specs.declared.types.Member.{Member}
 use Rattle.p9_lang.specs.declared.types.Tag.{Tag}
-use Rattle.p9_lang.specs.Types.{Char, Short, Int, Tags, MemberTree, member_of, members_of, tag_of, tags_of}
+use Rattle.p9_lang.specs.Types.{Char, Short, Int, MemberTree, member_of, members_of, tag_of, tags_of}
 use Rattle.p9_lang.specs.LayoutExamples.{of}
 use Rattle.p9_lang.specs.TagRules.{NoneContainsItself}
 use Rattle.p9_types.specs.Examples.{sample_tag, sample, innermost_tag, enclosing_tag, nested}
-use Rattle.p9_types.specs.Sizes.{TagIsWithin, SizesAreWithin}
 
 pub sample_tag_is : (u : Bool) (name : List ℕ) (none a b d : List Member) (k m n : Member) → name ≡ [] → none ≡ []
     → a ≡ none ++ k ∷ [] → b ≡ a ++ m ∷ [] → d ≡ b ++ n ∷ []
@@ -52,24 +51,3 @@ nested_ends (suc (suc (suc i))) lt = absurd (omega arith)
 
 pub ends_as_nested : (ts : List Tag) → tags_of ts ≡ nested → NoneContainsItself (tags_of ts)
 ends_as_nested ts e = subst NoneContainsItself (sym e) nested_ends
-
-beyond : (tags : Tags) (i : ℕ) → TagIsWithin tags i (slice_get [] i)
-beyond tags zero = tt
-beyond tags (suc i) = tt
-
-nested_sizes : SizesAreWithin nested
-nested_sizes zero = omega arith
-nested_sizes (suc zero) = omega arith
-nested_sizes (suc (suc zero)) = omega arith
-nested_sizes (suc (suc (suc i))) = tt
-
-pub sizes_as_nested : (ts : List Tag) → tags_of ts ≡ nested → SizesAreWithin (tags_of ts)
-sizes_as_nested ts e = subst SizesAreWithin (sym e) nested_sizes
-
-sample_sizes : (u : Bool) → SizesAreWithin (sample u)
-sample_sizes true zero = omega arith
-sample_sizes false zero = omega arith
-sample_sizes u (suc i) = tt
-
-pub sizes_as_sample : (u : Bool) (ts : List Tag) → tags_of ts ≡ sample u → SizesAreWithin (tags_of ts)
-sizes_as_sample u ts e = subst SizesAreWithin (sym e) (sample_sizes u)

@@ -7,6 +7,7 @@ use Rattle.p9_lang.specs.Layout.{Extent, layout, nothing_yet, with_member}
 use Rattle.p9_lang.specs.Members.{Part, Placed, or_empty, placed_from, placed_in_body, placed_in_tag, placed, Sought, Nowhere, One, Several, or_deeper, sought, inner_parts, FoundMember, found_member, named_members, found_of, find_in_body, find_in_tag, find_member, whole}
 use Rattle.p9_lang.specs.Members as members
 use Rattle.p9_types.specs.declared.finding.Found.{Found}
+use Rattle.p9_types.specs.Offsets.{kept_offset}
 use Rattle.p9_types.specs.Sightings.{without_type}
 use Rattle.p9_types.specs.FoundMembers.{member_in_body, member_in, IsWritten, TellsMember}
 
@@ -86,17 +87,19 @@ named_one x p (q ∷ ms) m h = by (same_name x q.name) refl h (named_one x p ms 
     by false e k next = later (next k)
 
 written : (tags : Tags) (i : ℕ) (x : List ℕ) (m : FoundMember) → sought (length tags) tags (named_members tags x) (whole i ∷ []) ≡ One m
-    → find_member tags i x ≡ members.At m.offset m.tag m.number m.type → IsWritten tags i x m.offset m.tag m.number
+    → find_member tags i x ≡ members.At m.offset m.tag m.number m.type → IsWritten tags i x (kept_offset m.offset) m.tag m.number
 written tags i x m e f =
     let r = sought_in (length tags) tags (named_members tags x) (whole i ∷ []) m e in
     let q = named_one x r.0 (placed tags r.0.tag) m r.1 in
     record {
+      begins = m.offset;
       member = record { name = q.0.name; type = q.0.type };
       stands =
           sym (ap (λ (y : FoundMember). member_in (slice_get tags y.tag) y.number) q.3)
           ∙ in_tag tags (slice_get tags r.0.tag) q.0 q.1;
       named = q.2;
       found = f ∙ sym (ap (λ (y : FoundMember). members.At m.offset m.tag m.number y.type) q.3);
+      told = refl;
     }
 
 tells_sought : (tags : Tags) (i : ℕ) (x : List ℕ) (s : Sought FoundMember) → sought (length tags) tags (named_members tags x) (whole i ∷ []) ≡ s

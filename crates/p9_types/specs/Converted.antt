@@ -2,16 +2,17 @@
 use Rattle.std.specs.Prelude.{Bool, ◌&&◌, ◌||◌}
 use Rattle.p9_lang.specs.Types.{TypeTree}
 use Rattle.p9_lang.specs.Conversions as conversions
+use Rattle.p9_types.specs.Offsets.{kept_offset}
 use Rattle.p9_types.specs.declared.converting.Conv.{Conv}
 use Rattle.p9_types.specs.declared.converting.Conv.TheVariants as conv
 
-abbrev pub told_conversion : Conv → conversions.Conversion
-told_conversion conv.Same = conversions.Same
-told_conversion conv.Integer = conversions.Integer
-told_conversion conv.Null = conversions.Null
-told_conversion (conv.Inner offset) = conversions.Inner offset
-told_conversion conv.Ambiguous = conversions.Ambiguous
-told_conversion conv.No = conversions.No
+abbrev pub told_conversion : conversions.Conversion → Conv
+told_conversion conversions.Same = conv.Same
+told_conversion conversions.Integer = conv.Integer
+told_conversion conversions.Null = conv.Null
+told_conversion (conversions.Inner offset) = conv.Inner (kept_offset offset)
+told_conversion conversions.Ambiguous = conv.Ambiguous
+told_conversion conversions.No = conv.No
 
 -- a pointer to void, and one to an object
 abbrev pub are_generic : TypeTree → TypeTree → Bool

@@ -3,6 +3,7 @@ use Rattle.std.specs.Prelude.{◌≡◌, ℕ, IsTrue, List, slice_get, Option, S
 use Rattle.p9_lang.specs.Names.{same_name}
 use Rattle.p9_lang.specs.Types.{MemberTree, TagTree, Tags}
 use Rattle.p9_lang.specs.Members as members
+use Rattle.p9_types.specs.Offsets.{kept_offset}
 use Rattle.p9_types.specs.declared.finding.Found.{Found}
 use Rattle.p9_types.specs.declared.finding.Found.TheVariants.{At, Missing, Ambiguous, Incomplete}
 
@@ -15,11 +16,13 @@ member_in None number = None
 member_in (Some tag) number = member_in_body tag.members number
 
 -- the body of the structure has a member of that name at that number, whose type is the one found
-pub record IsWritten (tags : Tags) (i : ℕ) (x : List ℕ) (offset tag number : ℕ) : Type 0 where
+pub record IsWritten (tags : Tags) (i : ℕ) (x : List ℕ) (offset : Option ℕ) (tag number : ℕ) : Type 0 where
+  pub begins : ℕ
   pub member : MemberTree
   pub stands : member_in (slice_get tags tag) number ≡ Some member
   pub named : IsTrue (same_name x member.name)
-  pub found : members.find_member tags i x ≡ members.At offset tag number member.type
+  pub found : members.find_member tags i x ≡ members.At begins tag number member.type
+  pub told : offset ≡ kept_offset begins
 
 abbrev pub TellsMember : Tags → ℕ → List ℕ → Found → Type 0
 TellsMember tags i x (At offset tag number) = IsWritten tags i x offset tag number

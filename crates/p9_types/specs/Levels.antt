@@ -1,7 +1,7 @@
 -- Levels of structures within a structure. A structure may stand at a level more than once; of such
 -- ones it counts only that there are several.
-use Rattle.std.specs.Prelude.{◌≡◌, ℕ, Bool, true, false, not, IsTrue, List, [], ◌∷◌, ◌++◌}
-use Rattle.std.specs.List.{flat_map, filter, list_all}
+use Rattle.std.specs.Prelude.{◌≡◌, ℕ, Bool, true, false, not, List, [], ◌∷◌, ◌++◌}
+use Rattle.std.specs.List.{flat_map, filter}
 use Rattle.p9_lang.specs.Members.{Part, Sought, Nowhere, One, Several, or_deeper, offset_if}
 
 -- what a list has
@@ -33,11 +33,9 @@ copies true part = part ∷ part ∷ []
 abbrev pub unmet : (ℕ → Bool) → List Part → List Part
 unmet met level = filter (λ p. not (met p.tag)) level
 
--- A level to which parts are added. What a test says of all parts of a level and of those that are
--- added it says of all afterwards: where there are several of a structure, some may be left out.
+-- A level to which parts are added; where there are several of a structure, some may be left out.
 pub record Adds (level parts later : List Part) : Type 0 where
   pub same : SameLevel later (level ++ parts)
-  pub keeps : (test : Part → Bool) → IsTrue (list_all test level) → IsTrue (list_all test parts) → IsTrue (list_all test later)
 
 -- what comes in from parts of one that stands there once, or several times
 abbrev pub entering : (several : Bool) → (met : ℕ → Bool) → List Part → List Part

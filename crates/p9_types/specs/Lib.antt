@@ -6,7 +6,7 @@ pub mod Levels
 pub mod Sightings
 pub mod Standings
 pub mod FoundMembers
-pub mod Sizes
+pub mod Offsets
 pub mod Heads
 pub mod Pairs
 pub mod Converted

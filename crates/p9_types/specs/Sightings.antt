@@ -9,15 +9,22 @@ use Rattle.p9_types.specs.declared.finding.Found.{Found}
 use Rattle.p9_types.specs.declared.finding.Found.TheVariants as found
 use Rattle.p9_lang.specs.Types.{MemberTree, TagTree, Tags}
 use Rattle.p9_lang.specs.Members as members
+use Rattle.p9_types.specs.Offsets.{kept_offset}
 
 abbrev pub told_sought : {T : Type 0} → Sought T → members.Sought T
 told_sought sight.Nowhere = members.Nowhere
 told_sought (sight.One x) = members.One x
 told_sought sight.Several = members.Several
 
+-- what is sought, told in another way
+abbrev pub sought_map : {A B : Type 0} → (A → B) → members.Sought A → members.Sought B
+sought_map tell members.Nowhere = members.Nowhere
+sought_map tell (members.One x) = members.One (tell x)
+sought_map tell members.Several = members.Several
+
 -- a member's place, without its type, which is written there
 abbrev pub place_of : members.FoundMember → MemberPlace
-place_of m = record { offset = m.offset; tag = m.tag; member = m.number }
+place_of m = record { offset = kept_offset m.offset; tag = m.tag; member = m.number }
 
 -- the members of a part that have a name, among these
 abbrev pub named_among : List ℕ → members.Part → List members.Placed → List MemberPlace
@@ -38,7 +45,7 @@ has_body (Some tag) = has_members tag.members
 
 -- an answer without the member's type
 abbrev pub without_type : members.Found → Found
-without_type (members.At offset tag number type) = found.At offset tag number
+without_type (members.At offset tag number type) = found.At (kept_offset offset) tag number
 without_type members.Missing = found.Missing
 without_type members.Ambiguous = found.Ambiguous
 without_type members.Incomplete = found.Incomplete

@@ -3,7 +3,6 @@ ghost use Rattle.std.specs.Prelude.{◌≡◌, ◌&&◌, ◌||◌, false, IfOk, 
 ghost use Rattle.p9_lang.specs.Types.{Pointer, Tagged, type_of, tags_of};
 ghost use Rattle.p9_lang.specs.TagRules.{NoneContainsItself};
 ghost use Rattle.p9_lang.specs.Conversions.{is_integer, is_void, is_object, is_structure, points_to, same_type, stays, structure_conversion, conversion};
-ghost use Rattle.p9_types.specs.Sizes.{SizesAreWithin};
 ghost use Rattle.p9_types.specs.Converted.{told_conversion, are_generic};
 
 use crate::head::{is_integer, is_object, is_pointer, is_void, number_of, target_of};
@@ -16,13 +15,13 @@ use std::alloc::Global;
 
 /// How a value of one type becomes one of another: it stays, an integer becomes another, the null
 /// constant becomes a pointer, or a pointer to a structure becomes one to its unnamed substructure at
-/// an offset, of which there may be several; or not at all.
+/// an offset, or beyond the limit of all sizes, of which there may be several; or not at all.
 #[derive(Clone, Copy, PartialEq, Eq, Debug)]
 pub enum Conv {
     Same,
     Integer,
     Null,
-    Inner(u32),
+    Inner(Option<u32>),
     Ambiguous,
     No,
 }
@@ -86,10 +85,9 @@ fn structure_conversion(
     tags: &Tags,
 ) -> Result<Conv, NoMemory>
     requires ends { NoneContainsItself (tags_of tags.now.list) }
-    requires sizes { SizesAreWithin (tags_of tags.now.list) }
     requires apart { same_type (type_of from.now) (type_of to.now) ≡ false }
-    ensures { IfOk result (λ c. told_conversion c
-        ≡ structure_conversion (tags_of tags.now.list) (type_of from.now) (type_of to.now)) }
+    ensures { IfOk result (λ c. c ≡ told_conversion
+        (structure_conversion (tags_of tags.now.list) (type_of from.now) (type_of to.now))) }
 {
     let Some(outer) = structure_behind(from) else {
         return Ok(Conv::No);
@@ -112,10 +110,9 @@ pub fn convert(
     tags: &Tags,
     zero: bool,
 ) -> Result<Conv, NoMemory>
-    requires ends { NoneContainsItself (tags_of tags.now.list) }
-    requires sizes { SizesAreWithin (tags_of tags.now.list) }
-    ensures { IfOk result (λ c. told_conversion c
-        ≡ conversion (tags_of tags.now.list) (type_of from.now) (type_of to.now) zero) }
+    requires { NoneContainsItself (tags_of tags.now.list) }
+    ensures { IfOk result (λ c. c ≡ told_conversion
+        (conversion (tags_of tags.now.list) (type_of from.now) (type_of to.now) zero)) }
 {
     if stays(alloc, from, to)? {
         return Ok(Conv::Same);

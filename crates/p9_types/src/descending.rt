@@ -1,18 +1,19 @@
 // The levels of unnamed structures and unions within a structure or union.
-ghost use Rattle.std.specs.Prelude.{◌≡◌, ◌≤◌, ◌+◌, ◌||◌, ℕ, [], ◌∷◌, IsTrue, OnOk, IfOk, MatchOption};
-ghost use Rattle.std.specs.List.{list_all, flat_map};
+ghost use Rattle.std.specs.Prelude.{◌≡◌, ◌+◌, ◌||◌, ℕ, [], ◌∷◌, OnOk, IfOk, MatchOption};
+ghost use Rattle.std.specs.List.{flat_map};
 ghost use Rattle.p9_lang.specs.Names.{is_nameless};
 ghost use Rattle.p9_lang.specs.Types.{tags_of};
 ghost use Rattle.p9_lang.specs.TagRules.{NoneContainsItself};
-ghost use Rattle.p9_lang.specs.Members.{unnamed_part, inner_parts};
+ghost use Rattle.p9_lang.specs.Members.{unnamed_part};
 ghost use Rattle.p9_types.specs.Told.{IsSound};
-ghost use Rattle.p9_types.specs.Sizes.{SizesAreWithin, ends_within, begin_within};
+ghost use Rattle.p9_types.specs.Offsets.{cut_unnamed, cut_inner};
 ghost use Rattle.p9_types.specs.Levels.{Adds, entering, unmet};
 ghost use Rattle.p9_types.specs.Standings.{placing_of, all_placed, part_of, spread, spread_entries, stands_in, met_by};
 
 use crate::head::number_of;
 use crate::known::KnownTags;
 use crate::level::{MetTags, NextLevel, Standing};
+use crate::offsets::moved;
 use crate::placing::{Placing, placed_members};
 use p9_base::NoMemory;
 use p9_lang::{Ident, Tag};
@@ -45,9 +46,8 @@ fn add_member(
     placing: Placing,
     standing: Standing,
 ) -> Result<(), NoMemory>
-    requires { standing.offset + placing.offset ≤ 16777216 }
     ensures { OnOk result (Adds (spread_entries next.old.places.entries)
-        (entering standing.several (met_by met.now) (unnamed_part standing.offset (placing_of placing.entry)))
+        (entering standing.several (met_by met.now) (cut_unnamed standing.offset (placing_of placing.entry)))
         (spread_entries next.new.places.entries)) }
 {
     match unnamed_tag(placing) {
@@ -58,7 +58,7 @@ fn add_member(
             }
             next.add(Standing {
                 tag,
-                offset: standing.offset + placing.offset,
+                offset: moved(standing.offset, placing.offset),
                 several: standing.several,
             })?;
             Ok(())
@@ -72,9 +72,8 @@ fn add_members(
     placings: &[Placing],
     standing: Standing,
 ) -> Result<(), NoMemory>
-    requires { IsTrue (begin_within standing.offset (all_placed placings.now)) }
     ensures { OnOk result (Adds (spread_entries next.old.places.entries)
-        (entering standing.several (met_by met.now) (flat_map (unnamed_part standing.offset) (all_placed placings.now)))
+        (entering standing.several (met_by met.now) (flat_map (cut_unnamed standing.offset) (all_placed placings.now)))
         (spread_entries next.new.places.entries)) }
 {
     let mut rest = placings;
@@ -95,12 +94,10 @@ fn enter(
     tags: &[Tag],
 ) -> Result<(), NoMemory>
     requires ends { NoneContainsItself (tags_of tags.now) }
-    requires sizes { SizesAreWithin (tags_of tags.now) }
     requires sound { IsSound (tags_of tags.now) known.old.map.entries }
-    requires within { IsTrue (ends_within (tags_of tags.now) (part_of standing)) }
     ensures sound { OnOk result (IsSound (tags_of tags.now) known.new.map.entries) }
     ensures adds { OnOk result (Adds (spread_entries next.old.places.entries)
-        (entering standing.several (met_by met.now) (inner_parts (tags_of tags.now) (part_of standing)))
+        (entering standing.several (met_by met.now) (cut_inner (tags_of tags.now) (part_of standing)))
         (spread_entries next.new.places.entries)) }
 {
     let placings = placed_members(alloc, known, standing.tag, tags)?;
@@ -117,16 +114,12 @@ pub(crate) fn descend(
     tags: &[Tag],
 ) -> Result<Vec<Standing>, NoMemory>
     requires ends { NoneContainsItself (tags_of tags.now) }
-    requires sizes { SizesAreWithin (tags_of tags.now) }
     requires sound { IsSound (tags_of tags.now) known.old.map.entries }
-    requires within { IsTrue (list_all (ends_within (tags_of tags.now)) (spread level.now)) }
     ensures sound { OnOk result (IsSound (tags_of tags.now) known.new.map.entries) }
     ensures met { OnOk result ((i : ℕ) → met_by met.new i ≡ (stands_in i level.now || met_by met.old i)) }
     ensures level { IfOk result (λ next. Adds []
-        (unmet (met_by met.new) (flat_map (inner_parts (tags_of tags.now)) (spread level.now)))
+        (unmet (met_by met.new) (flat_map (cut_inner (tags_of tags.now)) (spread level.now)))
         (spread next.items)) }
-    ensures within { IfOk result (λ next.
-        IsTrue (list_all (ends_within (tags_of tags.now)) (spread next.items))) }
 {
     met.meet_all(level)?;
     let mut next = NextLevel::new(alloc);

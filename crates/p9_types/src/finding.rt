@@ -1,12 +1,11 @@
 // Members by their names.
-ghost use Rattle.std.specs.Prelude.{◌≡◌, ◌≤◌, ◌+◌, ◌∷◌, [], IsTrue, OnOk, IfOk, slice_get, length};
-ghost use Rattle.std.specs.List.{list_all, flat_map};
+ghost use Rattle.std.specs.Prelude.{◌≡◌, ◌∷◌, [], OnOk, IfOk, slice_get, length};
+ghost use Rattle.std.specs.List.{flat_map};
 ghost use Rattle.p9_lang.specs.Names.{same_name};
 ghost use Rattle.p9_lang.specs.Types.{tags_of};
 ghost use Rattle.p9_lang.specs.TagRules.{NoneContainsItself};
 ghost use Rattle.p9_lang.specs.Members.{find_member, sought, whole};
 ghost use Rattle.p9_types.specs.Told.{IsSound};
-ghost use Rattle.p9_types.specs.Sizes.{SizesAreWithin, ends_within, begin_within};
 ghost use Rattle.p9_types.specs.Levels.{tally};
 ghost use Rattle.p9_types.specs.Standings.{placing_of, all_placed, part_of, copies_of, spread};
 ghost use Rattle.p9_types.specs.FoundMembers.{TellsMember};
@@ -15,6 +14,7 @@ ghost use Rattle.p9_types.specs.Sightings.{told_sought, named_among, named_place
 use crate::descending::descend;
 use crate::known::KnownTags;
 use crate::level::{MetTags, Standing};
+use crate::offsets::{kept_offset, moved};
 use crate::placing::{Placing, placed_members};
 use crate::reaching::tag_at;
 use crate::sought::Sought;
@@ -22,11 +22,16 @@ use p9_base::NoMemory;
 use p9_lang::{Ident, Tag, Tags};
 use std::alloc::Global;
 
-/// What there is of a name in a structure or union. A member stands at `offset` in it, and is the one
-/// with the number `member` in the body of the structure or union `tag`.
+/// What there is of a name in a structure or union. A member stands at `offset` in it, or beyond the
+/// limit of all sizes, and is the one with the number `member` in the body of the structure or union
+/// `tag`.
 #[derive(Clone, Copy, PartialEq, Eq, Debug)]
 pub enum Found {
-    At { offset: u32, tag: u32, member: u32 },
+    At {
+        offset: Option<u32>,
+        tag: u32,
+        member: u32,
+    },
     Missing,
     Ambiguous,
     Incomplete,
@@ -35,7 +40,7 @@ pub enum Found {
 // A member's offset in the whole, the structure or union whose body has it, and its number there.
 #[derive(Clone, Copy)]
 pub(crate) struct MemberPlace {
-    pub(crate) offset: u32,
+    pub(crate) offset: Option<u32>,
     pub(crate) tag: u32,
     pub(crate) member: u32,
 }
@@ -47,12 +52,11 @@ fn same_name(left: &Ident, right: &Ident) -> bool
 }
 
 fn named_here(placing: Placing, standing: Standing, name: &Ident) -> Sought<MemberPlace>
-    requires { standing.offset + placing.offset ≤ 16777216 }
     ensures { told_sought result ≡ tally (named_among name.now (part_of standing) (placing_of placing.entry ∷ [])) }
 {
     if same_name(name, &placing.member.name) {
         Sought::One(MemberPlace {
-            offset: standing.offset + placing.offset,
+            offset: kept_offset(moved(standing.offset, placing.offset)),
             tag: standing.tag,
             member: placing.number,
         })
@@ -62,7 +66,6 @@ fn named_here(placing: Placing, standing: Standing, name: &Ident) -> Sought<Memb
 }
 
 fn named_among(placings: &[Placing], standing: Standing, name: &Ident) -> Sought<MemberPlace>
-    requires { IsTrue (begin_within standing.offset (all_placed placings.now)) }
     ensures { told_sought result ≡ tally (named_among name.now (part_of standing) (all_placed placings.now)) }
 {
     let mut found = Sought::Nowhere;
@@ -83,9 +86,7 @@ fn search_standing(
     tags: &[Tag],
 ) -> Result<Sought<MemberPlace>, NoMemory>
     requires ends { NoneContainsItself (tags_of tags.now) }
-    requires sizes { SizesAreWithin (tags_of tags.now) }
     requires sound { IsSound (tags_of tags.now) known.old.map.entries }
-    requires within { IsTrue (ends_within (tags_of tags.now) (part_of standing)) }
     ensures sound { OnOk result (IsSound (tags_of tags.now) known.new.map.entries) }
     ensures found { IfOk result (λ found. told_sought found
         ≡ tally (flat_map (named_places (tags_of tags.now) name.now) (copies_of standing))) }
@@ -103,9 +104,7 @@ fn search_level(
     tags: &[Tag],
 ) -> Result<Sought<MemberPlace>, NoMemory>
     requires ends { NoneContainsItself (tags_of tags.now) }
-    requires sizes { SizesAreWithin (tags_of tags.now) }
     requires sound { IsSound (tags_of tags.now) known.old.map.entries }
-    requires within { IsTrue (list_all (ends_within (tags_of tags.now)) (spread level.now)) }
     ensures sound { OnOk result (IsSound (tags_of tags.now) known.new.map.entries) }
     ensures found { IfOk result (λ found. told_sought found
         ≡ tally (flat_map (named_places (tags_of tags.now) name.now) (spread level.now))) }
@@ -136,8 +135,7 @@ fn find_by_levels(
     tag: u32,
     name: &Ident,
 ) -> Result<Sought<MemberPlace>, NoMemory>
-    requires ends { NoneContainsItself (tags_of tags.now) }
-    requires sizes { SizesAreWithin (tags_of tags.now) }
+    requires { NoneContainsItself (tags_of tags.now) }
     ensures { IfOk result (λ found. told_sought found ≡ sought (length (tags_of tags.now)) (tags_of tags.now)
         (named_places (tags_of tags.now) name.now) (whole tag ∷ [])) }
 {
@@ -168,8 +166,7 @@ fn find_by_levels(
 /// The member of a structure or union with this name: its own, or else that of its unnamed
 /// substructures at the least level that has one.
 pub fn find_member(alloc: Global, tags: &Tags, tag: u32, name: &Ident) -> Result<Found, NoMemory>
-    requires ends { NoneContainsItself (tags_of tags.now.list) }
-    requires sizes { SizesAreWithin (tags_of tags.now.list) }
+    requires { NoneContainsItself (tags_of tags.now.list) }
     ensures found { IfOk result (λ found.
         found ≡ without_type (find_member (tags_of tags.now.list) tag name.now)) }
     ensures member { IfOk result (TellsMember (tags_of tags.now.list) tag name.now) }

@@ -9,8 +9,8 @@ use p9_base::NoMemory;
 use std::alloc::Global;
 use std::collections::HashSet;
 
-/// A structure or union at a level: its number, where it begins in the whole, and whether it stands
-/// there at several places, of which `offset` is the first.
+/// A structure or union at a level: its number, where it begins in the whole, told as sizes are, and
+/// whether it stands there at several places, of which `offset` is the first.
 #[derive(Clone, Copy)]
 pub(crate) struct Standing {
     pub(crate) tag: u32,

@@ -13,6 +13,7 @@ mod known;
 mod laying;
 mod layouts;
 mod level;
+mod offsets;
 mod placing;
 mod reaching;
 mod same;

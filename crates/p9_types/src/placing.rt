@@ -1,21 +1,21 @@
 // Where the members of a structure or union stand.
-ghost use Rattle.std.specs.Prelude.{◌≡◌, ◌+◌, OnOk, IfOk};
+ghost use Rattle.std.specs.Prelude.{◌≡◌, ◌+◌, map, OnOk, IfOk};
 ghost use Rattle.p9_lang.specs.Types.{members_of, tags_of};
 ghost use Rattle.p9_lang.specs.TagRules.{NoneContainsItself};
 ghost use Rattle.p9_lang.specs.Layout.{nothing_yet};
 ghost use Rattle.p9_lang.specs.Members.{placed, placed_from};
 ghost use Rattle.p9_types.specs.Told.{IsSound};
-ghost use Rattle.p9_types.specs.Sizes.{SizesAreWithin, FillsWithin};
+ghost use Rattle.p9_types.specs.Offsets.{cut_placed};
 ghost use Rattle.p9_types.specs.Standings.{all_placed};
 
-use crate::capped::Capped;
+use crate::capped::{Capped, capped_number};
 use crate::known::KnownTags;
 use crate::reaching::{extent_within, tag_at};
 use p9_base::NoMemory;
 use p9_lang::{Member, Tag};
 use std::alloc::Global;
 
-/// A member with its offset in its structure and its number in the body.
+/// A member with its offset in its structure, told as sizes are, and its number in the body.
 #[derive(Clone, Copy)]
 pub(crate) struct Placing<'a> {
     pub(crate) member: &'a Member,
@@ -39,10 +39,9 @@ fn placed_in_body<'a>(
 ) -> Result<Vec<Placing<'a>>, NoMemory>
     requires ends { NoneContainsItself (tags_of tags.now) }
     requires sound { IsSound (tags_of tags.now) known.old.map.entries }
-    requires fits { FillsWithin (tags_of tags.now) is_union nothing_yet (members_of members.now) }
     ensures sound { OnOk result (IsSound (tags_of tags.now) known.new.map.entries) }
     ensures placed { IfOk result (λ placings. all_placed placings.items
-        ≡ placed_from (tags_of tags.now) is_union nothing_yet 0 (members_of members.now)) }
+        ≡ map cut_placed (placed_from (tags_of tags.now) is_union nothing_yet 0 (members_of members.now))) }
 {
     let mut placings = Vec::new(alloc);
     let mut so_far = Capped::nothing();
@@ -52,7 +51,7 @@ fn placed_in_body<'a>(
         let extent = extent_within(alloc, known, &member.ty, tags)?.unwrap_or(Capped::nothing());
         placings.push(Placing {
             member,
-            offset: so_far.offset_of(is_union, extent),
+            offset: capped_number(u64::from(so_far.offset_of(is_union, extent))),
             number,
         })?;
         so_far = so_far.with_member(is_union, extent);
@@ -70,10 +69,10 @@ pub(crate) fn placed_members<'a>(
     tags: &'a [Tag],
 ) -> Result<Vec<Placing<'a>>, NoMemory>
     requires ends { NoneContainsItself (tags_of tags.now) }
-    requires sizes { SizesAreWithin (tags_of tags.now) }
     requires sound { IsSound (tags_of tags.now) known.old.map.entries }
     ensures sound { OnOk result (IsSound (tags_of tags.now) known.new.map.entries) }
-    ensures placed { IfOk result (λ placings. all_placed placings.items ≡ placed (tags_of tags.now) number) }
+    ensures placed { IfOk result (λ placings. all_placed placings.items
+        ≡ map cut_placed (placed (tags_of tags.now) number)) }
 {
     let Some(tag) = tag_at(tags, number) else {
         return Ok(Vec::new(alloc));

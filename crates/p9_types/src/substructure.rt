@@ -3,33 +3,34 @@ ghost use Rattle.std.specs.Prelude.{◌≡◌, ◌≢◌, IfOk};
 ghost use Rattle.std.specs.List.{flat_map};
 ghost use Rattle.p9_lang.specs.Types.{tags_of};
 ghost use Rattle.p9_lang.specs.TagRules.{NoneContainsItself};
-ghost use Rattle.p9_lang.specs.Members.{find_substructure, offset_if};
-ghost use Rattle.p9_types.specs.Sizes.{SizesAreWithin};
-ghost use Rattle.p9_types.specs.Levels.{stands_at};
+ghost use Rattle.p9_lang.specs.Members.{find_substructure};
+ghost use Rattle.p9_types.specs.Offsets.{kept_offset, kept_if};
+ghost use Rattle.p9_types.specs.Levels.{tally};
 ghost use Rattle.p9_types.specs.Standings.{copies_of, spread};
-ghost use Rattle.p9_types.specs.Sightings.{told_sought};
+ghost use Rattle.p9_types.specs.Sightings.{told_sought, sought_map};
 
 use crate::descending::descend;
 use crate::known::KnownTags;
 use crate::level::{MetTags, Standing};
+use crate::offsets::kept_offset;
 use crate::sought::Sought;
 use p9_base::NoMemory;
 use p9_lang::{Tag, Tags};
 use std::alloc::Global;
 
-fn standing_here(standing: Standing, tag: u32) -> Sought<u32>
-    ensures { told_sought result ≡ stands_at tag (copies_of standing) }
+fn standing_here(standing: Standing, tag: u32) -> Sought<Option<u32>>
+    ensures { told_sought result ≡ tally (flat_map (kept_if tag) (copies_of standing)) }
 {
     if standing.tag == tag {
-        Sought::One(standing.offset).repeated(standing.several)
+        Sought::One(kept_offset(standing.offset)).repeated(standing.several)
     } else {
         Sought::Nowhere
     }
 }
 
-// Where a structure or union stands at a level.
-fn standing_at(level: &[Standing], tag: u32) -> Sought<u32>
-    ensures { told_sought result ≡ stands_at tag (spread level.now) }
+// Where a structure or union stands at a level, if within the limit.
+fn standing_at(level: &[Standing], tag: u32) -> Sought<Option<u32>>
+    ensures { told_sought result ≡ tally (flat_map (kept_if tag) (spread level.now)) }
 {
     let mut found = Sought::Nowhere;
     let mut rest = level;
@@ -41,11 +42,16 @@ fn standing_at(level: &[Standing], tag: u32) -> Sought<u32>
 }
 
 // The substructure, level by level.
-fn find_below(alloc: Global, tags: &[Tag], outer: u32, inner: u32) -> Result<Sought<u32>, NoMemory>
+fn find_below(
+    alloc: Global,
+    tags: &[Tag],
+    outer: u32,
+    inner: u32,
+) -> Result<Sought<Option<u32>>, NoMemory>
     requires ends { NoneContainsItself (tags_of tags.now) }
-    requires sizes { SizesAreWithin (tags_of tags.now) }
     requires apart { outer ≢ inner }
-    ensures { IfOk result (λ found. told_sought found ≡ find_substructure (tags_of tags.now) outer inner) }
+    ensures { IfOk result (λ found. told_sought found
+        ≡ sought_map kept_offset (find_substructure (tags_of tags.now) outer inner)) }
 {
     let mut known = KnownTags::new(alloc);
     let mut met = MetTags::new(alloc);
@@ -78,12 +84,11 @@ pub(crate) fn find_substructure(
     tags: &Tags,
     outer: u32,
     inner: u32,
-) -> Result<Sought<u32>, NoMemory>
+) -> Result<Sought<Option<u32>>, NoMemory>
     requires ends { NoneContainsItself (tags_of tags.now.list) }
-    requires sizes { SizesAreWithin (tags_of tags.now.list) }
     requires apart { outer ≢ inner }
-    ensures { IfOk result (λ found.
-        told_sought found ≡ find_substructure (tags_of tags.now.list) outer inner) }
+    ensures { IfOk result (λ found. told_sought found
+        ≡ sought_map kept_offset (find_substructure (tags_of tags.now.list) outer inner)) }
 {
     let found = find_below(alloc, tags.list.as_slice(), outer, inner)?;
     Ok(found)

@@ -155,7 +155,7 @@ fn pointer(alloc: Global, target: CType) -> Result<CType, NoMemory> {
 
 fn at(offset: u32, member: u32) -> Found {
     Found::At {
-        offset,
+        offset: Some(offset),
         tag: 0,
         member,
     }
@@ -206,7 +206,7 @@ fn pointers(rt: HostRuntime) -> Result<(), Fail> {
 
 #[test]
 fn structures(rt: HostRuntime) -> Result<(), Fail> {
-    assert_eq!(rt; between(rt.alloc(), 2, 1)?, Conv::Inner(4));
+    assert_eq!(rt; between(rt.alloc(), 2, 1)?, Conv::Inner(Some(4)));
     assert_eq!(rt; between(rt.alloc(), 1, 2)?, Conv::No);
     Ok(())
 }

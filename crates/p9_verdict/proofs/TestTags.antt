@@ -6,7 +6,6 @@ use Rattle.p9_lang.specs.declared.types.CType.TheVariants as ctype
 use Rattle.p9_lang.specs.Types.{members_of, tag_of, tags_of, type_of}
 use Rattle.p9_lang.specs.LayoutExamples.{of, structure}
 use Rattle.p9_lang.specs.TagRules.{NoneContainsItself}
-use Rattle.p9_types.specs.Sizes.{SizesAreWithin}
 use Rattle.p9_types.proofs.Shapes.{type_of_int}
 use Rattle.p9_verdict.specs.Examples.{complete_tag, incomplete_tag, example_tags}
 
@@ -22,14 +21,6 @@ example_ends (suc (suc i)) lt = absurd (omega arith)
 
 pub ends : (ts : List Tag) → tags_of ts ≡ example_tags → NoneContainsItself (tags_of ts)
 ends ts e = subst NoneContainsItself (sym e) example_ends
-
-example_sizes : SizesAreWithin example_tags
-example_sizes zero = omega arith
-example_sizes (suc zero) = tt
-example_sizes (suc (suc i)) = tt
-
-pub sizes : (ts : List Tag) → tags_of ts ≡ example_tags → SizesAreWithin (tags_of ts)
-sizes ts e = subst SizesAreWithin (sym e) example_sizes
 
 pub complete_tag_is : (name k : List ℕ) (none ms : List Member) → name ≡ codes "S" → k ≡ codes "k" → none ≡ [] → ms ≡ none ++ record { name = k; ty = ctype.Int } ∷ []
     → tag_of (record { is_union = false; name = name; members = Some ms; marked = false }) ≡ complete_tag

@@ -5,7 +5,6 @@ ghost use Rattle.p9_lang.specs.TagRules.{NoneContainsItself};
 ghost use Rattle.p9_lang.specs.Members.{find_member};
 ghost use Rattle.p9_lang.specs.Expressions.{value_type, sum_type, target_type, index_verdict, member_verdict, dot_verdict, arrow_verdict, select_verdict, as_value, as_object};
 ghost use Rattle.p9_lang.specs.Rules as rules;
-ghost use Rattle.p9_types.specs.Sizes.{SizesAreWithin};
 ghost use Rattle.p9_types.specs.FoundMembers.{member_in};
 ghost use Rattle.p9_operand.specs.Told.{told_operand};
 ghost use Rattle.p9_operand.specs.Answers.{TellsType, TellsVerdict};
@@ -116,8 +115,7 @@ fn member_verdict(
     tag: u32,
     tags: &Tags,
 ) -> Result<Verdict, RuleFault>
-    requires ends { NoneContainsItself (tags_of tags.now.list) }
-    requires sizes { SizesAreWithin (tags_of tags.now.list) }
+    requires { NoneContainsItself (tags_of tags.now.list) }
     ensures { TellsVerdict result
         (member_verdict name.now is_lvalue (find_member (tags_of tags.now.list) tag name.now)) }
 {
@@ -142,8 +140,7 @@ fn dot_verdict(
     ty: &CType,
     tags: &Tags,
 ) -> Result<Verdict, RuleFault>
-    requires ends { NoneContainsItself (tags_of tags.now.list) }
-    requires sizes { SizesAreWithin (tags_of tags.now.list) }
+    requires { NoneContainsItself (tags_of tags.now.list) }
     ensures { TellsVerdict result
         (dot_verdict (tags_of tags.now.list) name.now is_lvalue (type_of ty.now)) }
 {
@@ -154,8 +151,7 @@ fn dot_verdict(
 }
 
 fn arrow_verdict(alloc: Global, name: &Ident, ty: &CType, tags: &Tags) -> Result<Verdict, RuleFault>
-    requires ends { NoneContainsItself (tags_of tags.now.list) }
-    requires sizes { SizesAreWithin (tags_of tags.now.list) }
+    requires { NoneContainsItself (tags_of tags.now.list) }
     ensures { TellsVerdict result
         (arrow_verdict (tags_of tags.now.list) name.now (type_of ty.now)) }
 {
@@ -173,8 +169,7 @@ pub(crate) fn select_verdict(
     a: &Operand,
     tags: &Tags,
 ) -> Result<Verdict, RuleFault>
-    requires ends { NoneContainsItself (tags_of tags.now.list) }
-    requires sizes { SizesAreWithin (tags_of tags.now.list) }
+    requires { NoneContainsItself (tags_of tags.now.list) }
     ensures { TellsVerdict result
         (select_verdict (tags_of tags.now.list) arrow name.now (told_operand a.now)) }
 {

@@ -4,7 +4,6 @@ ghost use Rattle.p9_lang.specs.Types.{type_of, tags_of};
 ghost use Rattle.p9_lang.specs.TagRules.{NoneContainsItself};
 ghost use Rattle.p9_lang.specs.Conversions.{is_structure, same_type};
 ghost use Rattle.p9_lang.specs.Expressions.{assigned_rules, assign_rules, assign_verdict};
-ghost use Rattle.p9_types.specs.Sizes.{SizesAreWithin};
 ghost use Rattle.p9_operand.specs.Least.{least};
 ghost use Rattle.p9_operand.specs.Told.{told_least, told_operand};
 ghost use Rattle.p9_operand.specs.Answers.{TellsVerdict};
@@ -38,8 +37,7 @@ pub fn assigned_rules(
     value: &Operand,
     tags: &Tags,
 ) -> Result<Option<Rule>, NoMemory>
-    requires ends { NoneContainsItself (tags_of tags.now.list) }
-    requires sizes { SizesAreWithin (tags_of tags.now.list) }
+    requires { NoneContainsItself (tags_of tags.now.list) }
     ensures { IfOk result (λ rule. told_least rule
         ≡ least (assigned_rules (tags_of tags.now.list) is_statement (type_of to.now)
         (told_operand value.now))) }
@@ -59,8 +57,7 @@ fn assign_rules(
     b: &Operand,
     tags: &Tags,
 ) -> Result<Option<Rule>, NoMemory>
-    requires ends { NoneContainsItself (tags_of tags.now.list) }
-    requires sizes { SizesAreWithin (tags_of tags.now.list) }
+    requires { NoneContainsItself (tags_of tags.now.list) }
     ensures { IfOk result (λ rule. told_least rule
         ≡ least (assign_rules (tags_of tags.now.list) is_statement op (told_operand a.now)
         (told_operand b.now))) }
@@ -85,8 +82,7 @@ pub(crate) fn assign_verdict(
     b: &Operand,
     tags: &Tags,
 ) -> Result<Verdict, RuleFault>
-    requires ends { NoneContainsItself (tags_of tags.now.list) }
-    requires sizes { SizesAreWithin (tags_of tags.now.list) }
+    requires { NoneContainsItself (tags_of tags.now.list) }
     ensures { TellsVerdict result
         (assign_verdict (tags_of tags.now.list) is_statement op (told_operand a.now) (told_operand b.now)) }
 {

@@ -3,7 +3,6 @@ ghost use Rattle.std.specs.Prelude.{◌≡◌, IfOk};
 ghost use Rattle.p9_lang.specs.Types.{type_of, types_of, type_row, tags_of};
 ghost use Rattle.p9_lang.specs.TagRules.{NoneContainsItself};
 ghost use Rattle.p9_lang.specs.Expressions.{argument_rules, call_of, call_verdict};
-ghost use Rattle.p9_types.specs.Sizes.{SizesAreWithin};
 ghost use Rattle.p9_operand.specs.Least.{least};
 ghost use Rattle.p9_operand.specs.Told.{told_least, told_operands};
 ghost use Rattle.p9_operand.specs.Answers.{TellsVerdict};
@@ -22,8 +21,7 @@ fn argument_rules(
     arguments: &[Operand],
     tags: &Tags,
 ) -> Result<Option<Rule>, NoMemory>
-    requires ends { NoneContainsItself (tags_of tags.now.list) }
-    requires sizes { SizesAreWithin (tags_of tags.now.list) }
+    requires { NoneContainsItself (tags_of tags.now.list) }
     ensures { IfOk result (λ rule. told_least rule
         ≡ least (argument_rules (tags_of tags.now.list) (type_row (types_of parameters.now))
         (told_operands arguments.now))) }
@@ -53,8 +51,7 @@ fn call_of(
     arguments: &[Operand],
     tags: &Tags,
 ) -> Result<Verdict, RuleFault>
-    requires ends { NoneContainsItself (tags_of tags.now.list) }
-    requires sizes { SizesAreWithin (tags_of tags.now.list) }
+    requires { NoneContainsItself (tags_of tags.now.list) }
     ensures { TellsVerdict result
         (call_of (tags_of tags.now.list) (type_of function.now) (told_operands arguments.now)) }
 {
@@ -79,8 +76,7 @@ pub(crate) fn call_verdict(
     operands: &[Operand],
     tags: &Tags,
 ) -> Result<Verdict, RuleFault>
-    requires ends { NoneContainsItself (tags_of tags.now.list) }
-    requires sizes { SizesAreWithin (tags_of tags.now.list) }
+    requires { NoneContainsItself (tags_of tags.now.list) }
     ensures { TellsVerdict result
         (call_verdict (tags_of tags.now.list) (told_operands operands.now)) }
 {

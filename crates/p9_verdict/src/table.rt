@@ -4,7 +4,6 @@ ghost use Rattle.p9_lang.specs.Types.{type_of, tags_of};
 ghost use Rattle.p9_lang.specs.TagRules.{NoneContainsItself};
 ghost use Rattle.p9_lang.specs.Expressions as expressions;
 ghost use Rattle.p9_lang.specs.Expressions.{of_one, of_two, of_three, verdict};
-ghost use Rattle.p9_types.specs.Sizes.{SizesAreWithin};
 ghost use Rattle.p9_operand.specs.Told.{told_verdict, told_operands};
 ghost use Rattle.p9_operand.specs.Answers.{TellsVerdict};
 
@@ -57,8 +56,7 @@ fn select_at(
     operands: &[Operand],
     tags: &Tags,
 ) -> Result<Verdict, RuleFault>
-    requires ends { NoneContainsItself (tags_of tags.now.list) }
-    requires sizes { SizesAreWithin (tags_of tags.now.list) }
+    requires { NoneContainsItself (tags_of tags.now.list) }
     ensures { TellsVerdict result
         (of_one (expressions.select_verdict (tags_of tags.now.list) arrow name.now)
         (told_operands operands.now)) }
@@ -152,8 +150,7 @@ fn assign_at(
     operands: &[Operand],
     tags: &Tags,
 ) -> Result<Verdict, RuleFault>
-    requires ends { NoneContainsItself (tags_of tags.now.list) }
-    requires sizes { SizesAreWithin (tags_of tags.now.list) }
+    requires { NoneContainsItself (tags_of tags.now.list) }
     ensures { TellsVerdict result
         (of_two (expressions.assign_verdict (tags_of tags.now.list) is_statement op)
         (told_operands operands.now)) }
@@ -200,8 +197,7 @@ pub fn verdict(
     kind: &Kind,
     operands: &[Operand],
 ) -> Result<Verdict, RuleFault>
-    requires ends { NoneContainsItself (tags_of tags.now.list) }
-    requires sizes { SizesAreWithin (tags_of tags.now.list) }
+    requires { NoneContainsItself (tags_of tags.now.list) }
     ensures { TellsVerdict result
         (verdict (tags_of tags.now.list) is_statement kind.now (told_operands operands.now)) }
 {

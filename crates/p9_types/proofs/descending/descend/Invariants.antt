@@ -1,9 +1,9 @@
-use Rattle.std.proofs.Common.{[], IsTrue, List, length}
-use Rattle.std.specs.List.{flat_map, list_all}
+use Rattle.std.proofs.Common.{[], List, length}
+use Rattle.std.specs.List.{flat_map}
 use Rattle.p9_lang.specs.Types.{tags_of}
-use Rattle.p9_lang.specs.Members.{Part, inner_parts}
+use Rattle.p9_lang.specs.Members.{Part}
 use Rattle.p9_types.specs.Told.{IsSound}
-use Rattle.p9_types.specs.Sizes.{ends_within}
+use Rattle.p9_types.specs.Offsets.{cut_inner}
 use Rattle.p9_types.specs.Levels.{Adds, unmet}
 use Rattle.p9_types.specs.Standings.{spread, spread_entries, met_by}
 use Rattle.p9_types.proofs.descending.descend.Given as goal
@@ -11,10 +11,9 @@ use Rattle.p9_types.proofs.descending.descend.Given as goal
 abbrev pub invariant-standings : goal.invariant-standings
 invariant-standings l = record {
   sound : IsSound (tags_of l.tags) l.known.map.entries;
-  within : IsTrue (list_all (ends_within (tags_of l.tags)) (spread l.rest));
   adds : (later : List Part)
-      → Adds (spread_entries l.next.places.entries) (unmet (met_by l.met) (flat_map (inner_parts (tags_of l.tags)) (spread l.rest))) later
-      → Adds [] (unmet (met_by l.met) (flat_map (inner_parts (tags_of l.tags)) (spread l.level))) later;
+      → Adds (spread_entries l.next.places.entries) (unmet (met_by l.met) (flat_map (cut_inner (tags_of l.tags)) (spread l.rest))) later
+      → Adds [] (unmet (met_by l.met) (flat_map (cut_inner (tags_of l.tags)) (spread l.level))) later;
 }
 
 abbrev pub decreases-standings : goal.decreases-standings

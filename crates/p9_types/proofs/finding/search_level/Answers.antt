@@ -1,23 +1,16 @@
-use Rattle.std.proofs.Common.{◌≡◌, ◌-◌, ◌∷◌, IsTrue, List, length, take, drop, get_or, false, subst}
-use Rattle.std.specs.List.{flat_map, list_all}
+use Rattle.std.proofs.Common.{◌≡◌, ◌-◌, ◌∷◌, List, length, take, drop, get_or, false, subst}
+use Rattle.std.specs.List.{flat_map}
 use Rattle.p9_lang.specs.Types.{tags_of}
 use Rattle.p9_types.specs.declared.level.Standing.{Standing}
-use Rattle.p9_types.specs.Sizes.{ends_within}
 use Rattle.p9_types.specs.Levels.{tally, together}
 use Rattle.p9_types.specs.Standings.{spread}
 use Rattle.p9_types.specs.Sightings.{told_sought, named_places}
 use Rattle.p9_types.proofs.Lists.{first_or, empty_below}
-use Rattle.p9_types.proofs.Unnamed.{within_first, within_others}
 use Rattle.p9_types.proofs.NamedMembers.{level_step, level_last}
 use Rattle.p9_types.proofs.finding.search_level.Goals as goal
 
 abbrev none : Standing
 none = record { tag = 0; offset = 0; several = false }
-
-pub search_standing-requires-clause-within : goal.search_standing-requires-clause-within
-search_standing-requires-clause-within c =
-    within_first (tags_of c.args.tags.now) (get_or c.standings.rest.now 0 none) (take (length c.standings.rest.now - 1) (drop 1 c.standings.rest.now))
-    (subst (λ ss. IsTrue (list_all (ends_within (tags_of c.args.tags.now)) (spread ss))) (first_or c.standings.rest.now none c.in-len1-up.len_at_least) c.standings.invariant.within)
 
 pub standings-preserved : goal.standings-preserved
 standings-preserved c =
@@ -26,7 +19,6 @@ standings-preserved c =
     let whole : c.standings.rest.now ≡ first ∷ others = first_or c.standings.rest.now none c.in-len1-up.len_at_least in
     record {
       sound = c.in_ok-here.ensures.sound;
-      within = within_others (tags_of c.args.tags.now) first others (subst (λ ss. IsTrue (list_all (ends_within (tags_of c.args.tags.now)) (spread ss))) whole c.standings.invariant.within);
       found = level_step (named_places (tags_of c.args.tags.now) c.args.name.now) first others
           (told_sought c.standings.found) (told_sought c.in_ok-here.here) (told_sought c.and-found.result)
           (tally (flat_map (named_places (tags_of c.args.tags.now) c.args.name.now) (spread c.args.level.now)))

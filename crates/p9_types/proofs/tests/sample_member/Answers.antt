@@ -1,9 +1,6 @@
 use Rattle.std.proofs.Common.{false}
-use Rattle.p9_types.proofs.SampleTypes.{ends_as_sample, sizes_as_sample}
+use Rattle.p9_types.proofs.SampleTypes.{ends_as_sample}
 use Rattle.p9_types.proofs.tests.sample_member.Goals as goal
 
-pub find_member-requires-clause-ends : goal.find_member-requires-clause-ends
-find_member-requires-clause-ends c = ends_as_sample false c.in_ok-tags.tags.list c.in_ok-tags.ensures
-
-pub find_member-requires-clause-sizes : goal.find_member-requires-clause-sizes
-find_member-requires-clause-sizes c = sizes_as_sample false c.in_ok-tags.tags.list c.in_ok-tags.ensures
+pub find_member-requires : goal.find_member-requires
+find_member-requires c = ends_as_sample false c.in_ok-tags.tags.list c.in_ok-tags.ensures
