@@ -1,5 +1,5 @@
 -- The code of an expression runs what the expression does.
-use Rattle.std.proofs.Common.{◌≡◌, ℕ, suc, ◌+◌, Bool, true, false, if◌then◌else◌, List, [], ◌∷◌, ◌++◌, length, take, drop, reverse, Some, None, Result, Ok, Err, slice_get, refl, sym, ap, subst, ◌∙◌, arith, append_assoc}
+use Rattle.std.proofs.Common.{◌≡◌, ℕ, suc, ◌+◌, Bool, true, false, if◌then◌else◌, List, [], ◌∷◌, ◌++◌, length, take, drop, reverse, Some, None, Result, Ok, Err, slice_get, refl, sym, ap, subst, ◌∙◌, arith, append_assoc, Option}
 use Rattle.std.proofs.lemmas.List.{length-reverse, reverse-reverse}
 use Rattle.std.proofs.lemmas.Grind.{reverse_onto}
 use Rattle.std.proofs.Math.Seq.{take-append_seam, drop-append_seam}
@@ -28,12 +28,12 @@ use Rattle.p9_cmean.proofs.Plays.{bind_assoc}
 use Rattle.p9_flat.specs.declared.op.Op.{Op}
 use Rattle.p9_flat.specs.declared.op.Op.TheVariants as op
 use Rattle.p9_flat.specs.Resolved.{tests}
-use Rattle.p9_flat.specs.Code.{Numbers, Slot, Setting, lvalue_node, assign_code, assign_scalar_code, update_code, operate_code, read_code, truth_code, chosen_code, answer_code, call_code, address_code, value_code, values_code, convert_code}
+use Rattle.p9_flat.specs.Code.{numbered_call_code, Numbers, Slot, Setting, lvalue_node, assign_code, assign_scalar_code, update_code, operate_code, read_code, truth_code, chosen_code, answer_code, call_code, address_code, value_code, values_code, convert_code}
 use Rattle.p9_flat.specs.Laws.{AreNamed}
 use Rattle.p9_flat.specs.Step.{Own, Frame, frame, Step, Next, asking, calling, function_of, step}
 use Rattle.p9_flat.proofs.Playing.{by_call, by_fails}
 use Rattle.p9_flat.proofs.Resolving.{function_is}
-use Rattle.p9_flat.proofs.Runs.{World, PlaysIn, Runs, StraightWhere, Pushes, seq, seq_where, empty, moving, lacking, using, along}
+use Rattle.p9_flat.proofs.Runs.{World, PlaysIn, Runs, StraightWhere, Pushes, seq, seq_where, empty, moving, lacking, unnumbered, using, along}
 use Rattle.p9_flat.proofs.Accesses.{place_of, reading, narrowing, keeping, converting, assigning, casting, choosing, copying, left_used, operating, inner, truth_of, not_of, joined, choice, wording, answering}
 use Rattle.p9_flat.proofs.Naming.{Fits, own_of, with_living, naming, read_name, valuing}
 
@@ -133,40 +133,49 @@ module _ (w : World) (numbers : Numbers) (around : Surroundings) (named : AreNam
   call_by type pc here vs full stack s o fin k (Err why) there is go =
       by_fails w.names w.all w.below why (place_of own here) (frame pc full own) s s o there is
 
-  named_function : (type : TypeTree) (s : State) (f : Value)
-      → and_go (pointer_in f) (function_of w.names (numbers.call_type type) s.objects) ≡ and_go (pointer_in f) (function_at now type s.objects)
-  named_function type s f =
-      λ i. and_go (pointer_in f) (λ o. function_is w.names now type (numbers.call_type type) s.objects o (λ name. named.types name type) i)
+  named_function : (type : TypeTree) (number : ℕ) → numbers.call_type type ≡ Some number → (s : State) (f : Value)
+      → and_go (pointer_in f) (function_of w.names number s.objects) ≡ and_go (pointer_in f) (function_at now type s.objects)
+  named_function type number i s f =
+      λ j. and_go (pointer_in f) (λ o. function_is w.names now type number s.objects o (named.types type number i) j)
 
-  call_step : (type : TypeTree) (count pc here : ℕ) (f : Value) (vs stack : List Value) → count ≡ length vs → (s : State)
-      → step w.names (op.Call count (numbers.call_type type) here) (frame pc (onto vs (f ∷ stack)) own) s
-      ≡ calling w.names (numbers.call_type type) (place_of own here) vs f (frame pc stack own) s
-  call_step type count pc here f vs stack e s =
+  call_step : (number count pc here : ℕ) (f : Value) (vs stack : List Value) → count ≡ length vs → (s : State)
+      → step w.names (op.Call count number here) (frame pc (onto vs (f ∷ stack)) own) s
+      ≡ calling w.names number (place_of own here) vs f (frame pc stack own) s
+  call_step number count pc here f vs stack e s =
       ap (λ l. Rattle.p9_flat.specs.Step.on_one l (frame pc (onto vs (f ∷ stack)) own) (λ function g.
-      calling w.names (numbers.call_type type) (place_of own here) (reverse (take count (onto vs (f ∷ stack)))) function g s)) (drop_onto vs (f ∷ stack) count e)
-      ∙ ap (λ l. calling w.names (numbers.call_type type) (place_of own here) l f (frame pc stack own) s) (take_onto vs (f ∷ stack) count e)
+      calling w.names number (place_of own here) (reverse (take count (onto vs (f ∷ stack)))) function g s)) (drop_onto vs (f ∷ stack) count e)
+      ∙ ap (λ l. calling w.names number (place_of own here) l f (frame pc stack own) s) (take_onto vs (f ∷ stack) count e)
+
+  call_runs : (type : TypeTree) (number : ℕ) → numbers.call_type type ≡ Some number → (count pc here : ℕ) (f : Value) (vs stack : List Value) → count ≡ length vs
+      → Runs Value w own pc (numbered_call_code (Some number) (gives_integer type) count here) (onto vs (f ∷ stack)) (λ s. call_through now (place_of own here) type f vs s) (Pushes w own stack)
+  call_runs type number i count pc here (Word n) vs stack c = record {
+    runs = λ h fin e s k go.
+        call_by type pc here vs (onto vs (Word n ∷ stack)) stack s (op.Call count number here) fin k
+        (and_go (pointer_in (Word n)) (function_at now type s.objects)) h.0
+        (call_step number count pc here (Word n) vs stack c s ∙ ap (λ r. asking (place_of own here) vs r (frame pc stack own) s) (named_function type number i s (Word n)))
+        (λ v u. (answering w own (gives_integer type) (suc pc) here v stack).runs h.1 fin (omega (arith, e)) u k go);
+  }
+  call_runs type number i count pc here (Address p) vs stack c = record {
+    runs = λ h fin e s k go.
+        call_by type pc here vs (onto vs (Address p ∷ stack)) stack s (op.Call count number here) fin k
+        (and_go (pointer_in (Address p)) (function_at now type s.objects)) h.0
+        (call_step number count pc here (Address p) vs stack c s ∙ ap (λ r. asking (place_of own here) vs r (frame pc stack own) s) (named_function type number i s (Address p)))
+        (λ v u. (answering w own (gives_integer type) (suc pc) here v stack).runs h.1 fin (omega (arith, e)) u k go);
+  }
+  call_runs type number i count pc here (Missing there) vs stack c = record {
+    runs = λ h fin e s k go.
+        by_fails w.names w.all w.below cause.NoValue there (frame pc (onto vs (Missing there ∷ stack)) own) s s (op.Call count number here) h.0
+        (call_step number count pc here (Missing there) vs stack c s);
+  }
+
+  calling_by : (type : TypeTree) (o : Option ℕ) → numbers.call_type type ≡ o → (count pc here : ℕ) (f : Value) (vs stack : List Value) → count ≡ length vs
+      → Runs Value w own pc (numbered_call_code o (gives_integer type) count here) (onto vs (f ∷ stack)) (λ s. call_through now (place_of own here) type f vs s) (Pushes w own stack)
+  calling_by type None i count pc here f vs stack c = unnumbered
+  calling_by type (Some number) i count pc here f vs stack c = call_runs type number i count pc here f vs stack c
 
   calling_runs : (type : TypeTree) (count pc here : ℕ) (f : Value) (vs stack : List Value) → count ≡ length vs
       → Runs Value w own pc (call_code setting type count here) (onto vs (f ∷ stack)) (λ s. call_through now (place_of own here) type f vs s) (Pushes w own stack)
-  calling_runs type count pc here (Word n) vs stack c = record {
-    runs = λ h fin e s k go.
-        call_by type pc here vs (onto vs (Word n ∷ stack)) stack s (op.Call count (numbers.call_type type) here) fin k
-        (and_go (pointer_in (Word n)) (function_at now type s.objects)) h.0
-        (call_step type count pc here (Word n) vs stack c s ∙ ap (λ r. asking (place_of own here) vs r (frame pc stack own) s) (named_function type s (Word n)))
-        (λ v u. (answering w own (gives_integer type) (suc pc) here v stack).runs h.1 fin (omega (arith, e)) u k go);
-  }
-  calling_runs type count pc here (Address p) vs stack c = record {
-    runs = λ h fin e s k go.
-        call_by type pc here vs (onto vs (Address p ∷ stack)) stack s (op.Call count (numbers.call_type type) here) fin k
-        (and_go (pointer_in (Address p)) (function_at now type s.objects)) h.0
-        (call_step type count pc here (Address p) vs stack c s ∙ ap (λ r. asking (place_of own here) vs r (frame pc stack own) s) (named_function type s (Address p)))
-        (λ v u. (answering w own (gives_integer type) (suc pc) here v stack).runs h.1 fin (omega (arith, e)) u k go);
-  }
-  calling_runs type count pc here (Missing there) vs stack c = record {
-    runs = λ h fin e s k go.
-        by_fails w.names w.all w.below cause.NoValue there (frame pc (onto vs (Missing there ∷ stack)) own) s s (op.Call count (numbers.call_type type) here) h.0
-        (call_step type count pc here (Missing there) vs stack c s);
-  }
+  calling_runs type count pc here f vs stack c = calling_by type (numbers.call_type type) refl count pc here f vs stack c
 
   -- ARGUMENTS
 

@@ -9,14 +9,16 @@ use Rattle.p9_cmean.specs.Places.{or_wrong}
 use Rattle.p9_cmean.specs.SystemCalls.{SystemCall, Exits, Read, Write, exit_text, exits, exits_call, transfer_call, characters_at, written, write, room_at, filled, read, system_body}
 use Rattle.p9_cmean.specs.Plays.{Call, Play, Done, Wrong, NoMeaning, Exit, Cut, Turn, Ask, Moved}
 use Rattle.p9_cmean.specs.PlayLaws.{Lasts, LeavesFewer}
-use Rattle.p9_cmean.specs.Turns.{Outcome, Ended, Out, Undefined, Deep, NoOutcome, End, Gave, Over, and_then, Calls, resolve, Functions, room, calls_to}
+use Rattle.p9_cmean.specs.Turns.{Outcome, Ended, Out, Undefined, Deep, NoOutcome, End, Gave, Over, and_then, Calls, resolve, Functions, room, calls_to, outcome_of}
 use Rattle.p9_cmean.proofs.Plays.{lasts_less}
 use Rattle.p9_cmean.proofs.Calls.{calls_take_turns, depth_is_enough}
 use Rattle.p9_flat.specs.declared.op.Op.{Op}
 use Rattle.p9_flat.specs.Laws.{PlaysFrom}
 use Rattle.p9_flat.specs.Step as steps
 use Rattle.p9_flat.specs.Step.{Names, Own, Frame, frame, Step, step_at, answered, received, own_at, IsCut, Agrees, Meets, Plays}
-use Rattle.p9_flat.specs.Machine.{Entry, Code, System, Bare, Table, need_of, Waiting, Config, Advance, On, Stops, Lost, returns, answers, begins, enters, called, turned, after, EntryIs, IsTable, Observer, Last, Under, seen, Waits, ComesTo, Keeps, MachineIsRight}
+use Rattle.p9_flat.specs.Machine.{Entry, Code, System, Bare, Table, need_of, Waiting, Config, Advance, On, Stops, Lost, Unsaid, returns, answers, begins, enters, called, turned, after, EntryIs, IsTable, Observer, Last, Under, seen, Waits, ComesTo, Keeps, first_answers, first_begins, first_enters, StartIsRight, MachineIsRight}
+use Rattle.p9_cmean.specs.Union.{base_need}
+use Rattle.p9_cmean.specs.CRun.{return_text}
 
 -- a run that is over stays so under the calls that wait
 seen_over : (calls : Calls) (o : Observer) (outcome : Outcome) (copied : ℕ) → seen calls o (Over outcome copied) ≡ outcome
@@ -287,6 +289,7 @@ module _ (names : Names) (code : List Op) where
   keeps_more calls goal m n (On c) le h = (h.0, omega (arith, h.1))
   keeps_more calls goal m n (Stops o) le h = h
   keeps_more calls goal m n Lost le h = h
+  keeps_more calls goal m n Unsaid le h = h
 
   call_case : (functions : Functions) (e : Entry) (d : ℕ) (goal : Outcome) (o : Observer) (below : List Value) (turns copied : ℕ) (k : Value → State → Play Value)
       (call : Call) (f : Frame) (t : State) (c : Config)
@@ -373,6 +376,73 @@ module _ (names : Names) (code : List Op) where
       (subst (λ p. Lasts (suc c.turns) p) g.0 h.lasts) h.waits
       (h.is ∙ ap (λ p. seen (calls_to depth functions) h.observer (resolve (calls_to depth functions) c.active c.turns h.copied p)) g.0)
   keep functions table is depth goal c le h steps.Stuck a = absurd (a 0)
+  keep functions table is depth goal c le h steps.Unknown a = tt
+
+  -- THE START
+
+  first_answers_case : (goal : Outcome) (calls : Calls) (active turns : ℕ) (q : Play Value) → IsQuick q → goal ≡ outcome_of return_text (resolve calls active turns 0 q)
+      → Keeps names code calls goal turns (first_answers q)
+  first_answers_case goal calls active turns (Done v t) i is = sym is
+  first_answers_case goal calls active turns (Wrong why place t) i is = sym is
+  first_answers_case goal calls active turns (NoMeaning place t) i is = sym is
+  first_answers_case goal calls active turns (Exit text t) i is = sym is
+  first_answers_case goal calls active turns (Cut t) i is = absurd i
+  first_answers_case goal calls active turns (Turn t p) i is = absurd i
+  first_answers_case goal calls active turns (Ask call t p) i is = absurd i
+  first_answers_case goal calls active turns (Moved bytes p) i is = absurd i
+
+  first_begins_case : (calls : Calls) (goal : Outcome) (n : ℕ) (call : Call) (s : State) (pc owner need : ℕ) (r : Option (List Object)) (p : Play Value)
+      → Lasts (suc n) p → PlaysFrom names code [] pc owner r call s p → goal ≡ outcome_of return_text (resolve calls (base_need + need) n 0 p)
+      → Keeps names code calls goal n (first_begins pc owner need r call s n)
+  first_begins_case calls goal n call s pc owner need None p l plays is =
+      sym (is ∙ ap (λ q. outcome_of return_text (resolve calls (base_need + need) n 0 q)) plays)
+  first_begins_case calls goal n call s pc owner need (Some objects) p l plays is = (
+    record { play = p; copied = 0; observer = Last; below = []; plays = plays; lasts = l; waits = tt; is = is },
+    omega arith,
+  )
+
+  first_enters_case : (functions : Functions) (d n : ℕ) (call : Call) (s : State) (e : Entry) (goal : Outcome) → n ≤ d
+      → functions.need call.function ≡ need_of e → EntryIs names code functions call.function e
+      → goal ≡ outcome_of return_text (resolve (calls_to d functions) (base_need + functions.need call.function) n 0 (functions.body n call s))
+      → Keeps names code (calls_to (suc d) functions) goal n (first_enters e call s n)
+  first_enters_case functions d n call s (Code pc owner sizes need) goal le i h is =
+      first_begins_case (calls_to (suc d) functions) goal n call s pc owner need (received sizes call.arguments) (functions.body n call s)
+      (h n call s refl).0 ((h n call s refl).1 [])
+      (is ∙ ap (λ r. outcome_of return_text r) (play_same functions d (base_need + functions.need call.function) (functions.body n call s) n 0 le)
+      ∙ ap (λ a. outcome_of return_text (resolve (calls_to (suc d) functions) (base_need + a) n 0 (functions.body n call s))) i)
+  first_enters_case functions d n call s (System system) goal le i h is =
+      first_answers_case goal (calls_to (suc d) functions) (base_need + functions.need call.function) n (system_body system call s) (quick_system system call s)
+      (is ∙ ap (λ q. outcome_of return_text (resolve (calls_to d functions) (base_need + functions.need call.function) n 0 q)) (h n call s refl)
+      ∙ ap (λ r. outcome_of return_text r) (play_same functions d (base_need + functions.need call.function) (system_body system call s) n 0 le))
+  first_enters_case functions d n call s (Bare need) goal le i h is =
+      sym (is ∙ ap (λ q. outcome_of return_text (resolve (calls_to d functions) (base_need + functions.need call.function) n 0 q)) (h n call s refl))
+
+  first_room_case : (b : Bool) (calls : Calls) (goal out : Outcome) (n : ℕ) (rest : End) (a : Advance)
+      → goal ≡ outcome_of return_text (if b then Over out 0 else rest)
+      → (goal ≡ outcome_of return_text rest → Keeps names code calls goal n a)
+      → Keeps names code calls goal n (if b then Stops out else a)
+  first_room_case true calls goal out n rest a is h = sym is
+  first_room_case false calls goal out n rest a is h = h is
+
+  start_case : (functions : Functions) (d n : ℕ) (call : Call) (s : State) (e : Entry) (goal : Outcome) → n ≤ d
+      → functions.need call.function ≡ need_of e → EntryIs names code functions call.function e
+      → goal ≡ outcome_of return_text (calls_to (suc d) functions base_need (suc n) 0 call s)
+      → Keeps names code (calls_to (suc d) functions) goal (suc n) (if nat_lt room (base_need + need_of e) then Stops (Deep call.place s) else first_enters e call s n)
+  start_case functions d n call s e goal le i h is =
+      first_room_case (nat_lt room (base_need + need_of e)) (calls_to (suc d) functions) goal (Deep call.place s) (suc n)
+      (resolve (calls_to d functions) (base_need + functions.need call.function) n 0 (functions.body n call s)) (first_enters e call s n)
+      (is ∙ ap (λ need. outcome_of return_text
+      (if nat_lt room (base_need + need) then Over (Deep call.place s) 0 else resolve (calls_to d functions) (base_need + functions.need call.function) n 0 (functions.body n call s))) i)
+      (λ same. keeps_more (calls_to (suc d) functions) goal n (suc n) (first_enters e call s n) (omega arith)
+      (first_enters_case functions d n call s e goal le i h same))
+
+pub start_is_right : StartIsRight
+start_is_right names code functions table is zero zero call s le = refl
+start_is_right names code functions table is (suc d) zero call s le = refl
+start_is_right names code functions table is zero (suc n) call s le = absurd (omega arith)
+start_is_right names code functions table is (suc d) (suc n) call s le =
+    start_case names code functions d n call s (table call.function) (outcome_of return_text (calls_to (suc d) functions base_need (suc n) 0 call s)) (omega (arith, le))
+    (is.needs call.function) (is.entries call.function) refl
 
 pub machine_is_right : MachineIsRight
 machine_is_right names code functions table is depth goal c le h =

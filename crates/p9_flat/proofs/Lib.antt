@@ -10,3 +10,4 @@ pub mod Switches
 pub mod Stmts
 pub mod Whole
 pub mod Keeping
+pub mod Programs

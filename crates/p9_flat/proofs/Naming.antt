@@ -4,15 +4,15 @@ use Rattle.p9_lang.specs.Types.{TypeTree, Meant, Outer, Static, Auto, EnumValue,
 use Rattle.p9_lang.specs.Types as types
 use Rattle.p9_lang.specs.Modules.{Label}
 use Rattle.p9_cmean.specs.declared.Place.{Place}
-use Rattle.p9_cmean.specs.Cells.{Pointer, Into, ToFunction, Value, Word, Address, State}
+use Rattle.p9_cmean.specs.Cells.{FunctionName, Pointer, Into, ToFunction, Value, Word, Address, State}
 use Rattle.p9_cmean.specs.Plays.{Play, Done, NoMeaning, bind}
 use Rattle.p9_cmean.specs.Places.{or_no_meaning}
 use Rattle.p9_cmean.specs.Automatics.{Living, living_object}
 use Rattle.p9_cmean.specs.Expressions.{Surroundings, at, outer_pointer, pointer_to, address_of_name, value_of_name, read_at}
-use Rattle.p9_flat.specs.Code.{Numbers, Slot, Setting, slot_of, slot_code, pointer_code, meant_code, name_code, named_code}
+use Rattle.p9_flat.specs.Code.{read_code, Numbers, named_function_code, Slot, Setting, slot_of, slot_code, pointer_code, meant_code, name_code, named_code}
 use Rattle.p9_flat.specs.Laws.{AreNamed}
 use Rattle.p9_flat.specs.Step.{Own, Next, frame, pushed_automatic}
-use Rattle.p9_flat.proofs.Runs.{World, Runs, Pushes, seq, empty, moving, lacking, along}
+use Rattle.p9_flat.proofs.Runs.{World, Runs, Pushes, seq, empty, moving, lacking, unnumbered, along}
 use Rattle.p9_flat.proofs.Accesses.{place_of, reading}
 
 -- The automatics in scope are those that are alive, each with its object at its number.
@@ -61,13 +61,18 @@ module _ (w : World) (numbers : Numbers) (around : Surroundings) (named : AreNam
   abbrev pub setting : Setting
   setting = record { around = around; numbers = numbers; scope = scope; alive = alive }
 
+  function_runs : (f : FunctionName) (o : Option ℕ) → numbers.function f ≡ o → (pc : ℕ) (stack : List Value)
+      → Runs Value w own pc (named_function_code o) stack (λ s. Done (Address (ToFunction f)) s) (Pushes w own stack)
+  function_runs f None e pc stack = unnumbered
+  function_runs f (Some number) e pc stack =
+      moving (Address (ToFunction f) ∷ stack) (λ s. ap (λ g. Next (frame (suc pc) (Address (ToFunction g) ∷ stack) own) s) (named.functions f number e))
+      (empty (Address (ToFunction f)))
+
   pointing : (o : Option Pointer) (pc here : ℕ) (stack : List Value)
       → Runs Value w own pc (pointer_code numbers o here) stack (λ s. address_or (place_of own here) o s) (Pushes w own stack)
   pointing None pc here stack = lacking
   pointing (Some (Into object offset)) pc here stack = moving (Address (Into object offset) ∷ stack) (λ s. refl) (empty (Address (Into object offset)))
-  pointing (Some (ToFunction f)) pc here stack =
-      moving (Address (ToFunction f) ∷ stack) (λ s. ap (λ g. Next (frame (suc pc) (Address (ToFunction g) ∷ stack) own) s) (named.functions f))
-      (empty (Address (ToFunction f)))
+  pointing (Some (ToFunction f)) pc here stack = function_runs f (numbers.function f) refl pc stack
 
   slotting : (slot : Option ℕ) (pointer : Option Pointer) (pc here : ℕ) (stack : List Value) → SlotIs automatics slot pointer
       → Runs Value w own pc (slot_code slot here) stack (λ s. address_or (place_of own here) pointer s) (Pushes w own stack)
@@ -93,7 +98,7 @@ module _ (w : World) (numbers : Numbers) (around : Surroundings) (named : AreNam
   naming label pc stack = meaning label.type label.means pc label.number stack
 
   pub read_name : (label : Label) (pc : ℕ) (stack : List Value)
-      → Runs Value w own pc (name_code setting label ++ Rattle.p9_flat.specs.Code.read_code label.type label.number) stack
+      → Runs Value w own pc (name_code setting label ++ read_code label.type label.number) stack
       (λ s. bind (address_of_name (with_living around living) label s) (λ p t. read_at (with_living around living) label.type (at around label) p t))
       (Pushes w own stack)
   read_name label pc stack =

@@ -7,7 +7,7 @@ use Rattle.p9_cmean.specs.Places.{used, or_wrong, done_at, or_no_meaning}
 use Rattle.p9_cmean.specs.Plays.{Call, Play, Done, Wrong, NoMeaning, Exit, Cut, Turn, Ask, Moved, bind}
 use Rattle.p9_flat.specs.declared.op.Op.{Op}
 use Rattle.p9_flat.specs.Flat.{HasAt}
-use Rattle.p9_flat.specs.Step.{Names, Frame, Next, Gives, Fails, Lacks, Turns, Moves, Calls, pushed, gone_to, stepped, branched, step, step_at, answered, Agrees, Meets, Plays}
+use Rattle.p9_flat.specs.Step.{Names, Frame, Next, Gives, Fails, Lacks, Unknown, Turns, Moves, Calls, pushed, gone_to, stepped, branched, step, step_at, answered, Agrees, Meets, Plays}
 
 pub has_first : (all : List Op) (pc : ℕ) (xs ys : List Op) → HasAt all pc (xs ++ ys) → HasAt all pc xs
 has_first all pc [] ys h = tt
@@ -80,6 +80,14 @@ module _ (names : Names) (all : List Op) (below : List Value) where
   by_lacks place f s t o there is (suc n) =
       inr (subst (λ r. Agrees below (step_at names r f s) (Meets names all below n) (NoMeaning place t)) (sym there)
       (subst (λ r. Agrees below r (Meets names all below n) (NoMeaning place t)) (sym is) refl))
+
+  pub by_unknown : (p : Play Value) (f : Frame) (s : State) (o : Op)
+      → slice_get all f.pc ≡ Some o → step names o f s ≡ Unknown → Plays names all below p f s
+  unfolding Plays
+  by_unknown p f s o there is zero = tt
+  by_unknown p f s o there is (suc n) =
+      inr (subst (λ r. Agrees below (step_at names r f s) (Meets names all below n) p) (sym there)
+      (subst (λ r. Agrees below r (Meets names all below n) p) (sym is) tt))
 
   pub by_turn : (p : Play Value) (f g : Frame) (s t : State) (o : Op)
       → slice_get all f.pc ≡ Some o → step names o f s ≡ Turns g t → Plays names all below p g t → Plays names all below (Turn t p) f s

@@ -10,7 +10,7 @@ use Rattle.p9_flat.specs.declared.op.Op.TheVariants as op
 use Rattle.p9_flat.specs.Flat.{HasAt}
 use Rattle.p9_flat.specs.Code.{lacks, lacks_of}
 use Rattle.p9_flat.specs.Step.{Names, Own, Frame, frame, Next, stepped, step, Plays}
-use Rattle.p9_flat.proofs.Playing.{has_first, has_second, IsSimple, by_next, by_lacks, by_fails, by_simple}
+use Rattle.p9_flat.proofs.Playing.{has_first, has_second, IsSimple, by_next, by_lacks, by_unknown, by_fails, by_simple}
 
 -- what stays the same while a call runs: what numbers name, all code, and the values of the calls that wait
 pub record World : Type 0 where
@@ -89,6 +89,14 @@ pub lacking : {A : Type 0} {w : World} {own : Own} {pc here : ℕ} {stack : List
 lacking {A} {w} {own} {pc} {here} {stack} {lands} = record {
   runs = λ h fin e s k go.
       by_lacks w.names w.all w.below (record { «module» = own.owner; node = here }) (frame pc stack own) s s (op.NoMeaning here) h.0 refl;
+}
+
+-- what has no number
+pub unnumbered : {A : Type 0} {w : World} {own : Own} {pc : ℕ} {stack : List Value} {f : State → Play A} {lands : Landing A}
+    → Runs A w own pc (op.Unnumbered ∷ []) stack f lands
+unnumbered {A} {w} {own} {pc} {stack} {f} {lands} = record {
+  runs = λ h fin e s k go.
+      by_unknown w.names w.all w.below (bind (f s) k) (frame pc stack own) s op.Unnumbered h.0 refl;
 }
 
 -- the use of a value

@@ -21,10 +21,11 @@ use Rattle.p9_flat.specs.declared.op.Scalar.TheVariants as scalar
 use Rattle.p9_flat.specs.declared.op.Operation.{Operation}
 use Rattle.p9_flat.specs.Resolved.{scalar_of, operation_of, tests}
 
--- the numbers of functions, and of the types by which functions are called
+-- The numbers of functions, and of the types by which functions are called. Where one has no number, the code
+-- says so, and does nothing that is known.
 pub record Numbers : Type 0 where
-  pub function : FunctionName → ℕ
-  pub call_type : TypeTree → ℕ
+  pub function : FunctionName → Option ℕ
+  pub call_type : TypeTree → Option ℕ
 
 -- an automatic in scope, by its number in the function, with its number among those that are alive
 pub record Slot : Type 0 where
@@ -61,10 +62,14 @@ abbrev pub slot_code : Option ℕ → (here : ℕ) → List Op
 slot_code None here = lacks here
 slot_code (Some number) here = op.Automatic number ∷ []
 
+abbrev pub named_function_code : Option ℕ → List Op
+named_function_code None = op.Unnumbered ∷ []
+named_function_code (Some number) = op.Function number ∷ []
+
 abbrev pub pointer_code : Numbers → Option Pointer → (here : ℕ) → List Op
 pointer_code numbers None here = lacks here
 pointer_code numbers (Some (Into object offset)) here = op.Object object offset ∷ []
-pointer_code numbers (Some (ToFunction function)) here = op.Function (numbers.function function) ∷ []
+pointer_code numbers (Some (ToFunction function)) here = named_function_code (numbers.function function)
 
 abbrev pub meant_code : Setting → TypeTree → Meant → (here : ℕ) → List Op
 meant_code setting type types.Nothing here = lacks here
@@ -186,9 +191,13 @@ abbrev pub answer_code : (gives_integer : Bool) → (here : ℕ) → List Op
 answer_code false here = []
 answer_code true here = op.Answer here ∷ []
 
+abbrev pub numbered_call_code : Option ℕ → (an_integer : Bool) → (count here : ℕ) → List Op
+numbered_call_code None an_integer count here = op.Unnumbered ∷ []
+numbered_call_code (Some number) an_integer count here = op.Call count number here ∷ answer_code an_integer here
+
 abbrev pub call_code : Setting → TypeTree → (count here : ℕ) → List Op
 call_code setting type count here =
-    op.Call count (setting.numbers.call_type type) here ∷ answer_code (gives_integer type) here
+    numbered_call_code (setting.numbers.call_type type) (gives_integer type) count here
 
 -- EXPRESSIONS
 

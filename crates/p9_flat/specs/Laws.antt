@@ -13,10 +13,11 @@ use Rattle.p9_flat.specs.Step.{Names, frame, received, own_at, Plays}
 use Rattle.p9_flat.specs.Code.{Numbers}
 use Rattle.p9_flat.specs.Flat.{HasAt, entry_at, function_code, parameter_sizes}
 
--- Numbers of functions and of types name what they are given for.
+-- Numbers of functions and of types name what they are given for, where they are given.
 pub record AreNamed (names : Names) (numbers : Numbers) (around : Surroundings) : Type 0 where
-  pub functions : (name : FunctionName) → names.function (numbers.function name) ≡ name
-  pub types : (name : FunctionName) (type : TypeTree) → names.has_type name (numbers.call_type type) ≡ around.has_type name type
+  pub functions : (name : FunctionName) (number : ℕ) → numbers.function name ≡ Some number → names.function number ≡ name
+  pub types : (type : TypeTree) (number : ℕ) → numbers.call_type type ≡ Some number
+      → (name : FunctionName) → names.has_type name number ≡ around.has_type name type
 
 -- Code plays a play from a function's entry on, with the objects of its arguments; or there are none, and the
 -- play has no meaning at the call.

@@ -4,3 +4,4 @@ pub mod Code
 pub mod Flat
 pub mod Laws
 pub mod Machine
+pub mod Program

@@ -45,11 +45,12 @@ pub record Config : Type 0 where
   pub turns : ℕ
   pub active : ℕ
 
--- It goes on, or stops with an outcome. It is never lost.
+-- It goes on, or stops with an outcome; it is never lost. Where something has no number, nothing is said.
 pub data Advance : Type 0 where
   On : Config → Advance
   Stops : Outcome → Advance
   Lost : Advance
+  Unsaid : Advance
 
 -- ANSWERS AND CALLS
 
@@ -114,6 +115,7 @@ after table (steps.Turns f t) c = turned f t c c.turns
 after table (steps.Moves bytes f t) c = goes_on f t c c.turns
 after table (steps.Calls call f t) c = called (table call.function) call f t c c.turns
 after table steps.Stuck c = Lost
+after table steps.Unknown c = Unsaid
 
 abbrev pub advance : Names → List Op → Table → Config → Advance
 advance names code table c = after table (step_at names (slice_get code c.top.pc) c.top c.state) c
@@ -173,6 +175,51 @@ abbrev pub Keeps : Names → List Op → Calls → (goal : Outcome) → (turns :
 Keeps names code calls goal turns (On c) = ComesTo names code calls goal c × (c.turns ≤ turns)
 Keeps names code calls goal turns (Stops outcome) = outcome ≡ goal
 Keeps names code calls goal turns Lost = ⊥
+Keeps names code calls goal turns Unsaid = Unit {0}
+
+-- THE START: a first call, under which none waits
+
+abbrev pub first_answers : Play Value → Advance
+first_answers (Done v t) = Stops (Ended return_text t)
+first_answers (Wrong why place t) = Stops (Undefined why place t)
+first_answers (NoMeaning place t) = Stops (NoOutcome place t)
+first_answers (Exit text t) = Stops (Ended text t)
+first_answers (Cut t) = Lost
+first_answers (Turn t p) = Lost
+first_answers (Ask call t p) = Lost
+first_answers (Moved bytes p) = Lost
+
+abbrev pub first_begins : (pc owner need : ℕ) → Option (List Object) → Call → State → (turns : ℕ) → Advance
+first_begins pc owner need None call s turns = Stops (NoOutcome call.place s)
+first_begins pc owner need (Some objects) call s turns =
+    On (record {
+      top = frame (entry_at pc) [] (own_at owner call.place (length objects) s);
+      waiting = [];
+      state = with_objects objects s;
+      turns = turns;
+      active = base_need + need;
+    })
+
+abbrev pub first_enters : Entry → Call → State → (turns : ℕ) → Advance
+first_enters (Code pc owner sizes need) call s turns = first_begins pc owner need (received sizes call.arguments) call s turns
+first_enters (System system) call s turns = first_answers (system_body system call s)
+first_enters (Bare need) call s turns = Stops (NoOutcome call.place s)
+
+abbrev pub starts : Table → Call → State → (turns : ℕ) → Advance
+starts table call s zero = Stops (Out (Some call) s)
+starts table call s (suc turns) =
+    if nat_lt room (base_need + need_of (table call.function)) then Stops (Deep call.place s)
+    else first_enters (table call.function) call s turns
+
+-- LAWS
+
+-- The machine begins a first call where it comes to what the call comes to, or stops with it.
+abbrev pub StartIsRight : Type 0
+StartIsRight =
+    (names : Names) (code : List Op) (functions : Functions) (table : Table) → IsTable names code functions table
+    → (depth turns : ℕ) (call : Call) (s : State) → turns ≤ depth
+    → Keeps names code (calls_to depth functions)
+    (outcome_of return_text (calls_to depth functions base_need turns 0 call s)) turns (starts table call s turns)
 
 -- A step keeps what the run comes to, or stops with it.
 abbrev pub MachineIsRight : Type 0

@@ -42,7 +42,8 @@ abbrev pub with_automatics : List ℕ → Own → Own
 with_automatics automatics own = record own { automatics = automatics }
 
 -- The call goes on; gives a value; is at an undefined operation, or at a node without a meaning; takes a
--- turn; has moved bytes by a structure copy; or calls. Code that is made of a function is never stuck.
+-- turn; has moved bytes by a structure copy; or calls. Code that is made of a function is never stuck; where it
+-- has something without a number, nothing is known.
 pub data Step : Type 0 where
   Next : Frame → State → Step
   Gives : Value → Frame → State → Step
@@ -52,6 +53,7 @@ pub data Step : Type 0 where
   Moves : (bytes : ℕ) → Frame → State → Step
   Calls : Call → Frame → State → Step
   Stuck : Step
+  Unknown : Step
 
 abbrev pub gone_to : (pc : ℕ) → Frame → Frame
 gone_to pc f = frame pc f.stack f.own
@@ -224,6 +226,7 @@ step names (op.Case word to) f s = on_one f.stack f (λ a g. chosen_case (is_wor
 step names op.Turn f s = Turns (gone_to (suc f.pc) f) s
 step names (op.NoMeaning node) f s = Lacks (place_in f node) s
 step names op.Stray f s = Lacks f.own.call s
+step names op.Unnumbered f s = Unknown
 step names op.Nothing f s = Next (pushed (Missing f.own.call) f) s
 step names op.Return f s = on_one f.stack f (λ a g. Gives a g s)
 
@@ -258,6 +261,7 @@ Agrees below (Moves bytes f t) F p = (q : Play Value) × (p ≡ Moved bytes q) �
 Agrees below (Calls call f t) F p =
     (k : Value → State → Play Value) × (p ≡ Ask call t k) × ((v : Value) (u : State) → F (k v u) (answered v f) u)
 Agrees below Stuck F p = ⊥
+Agrees below Unknown F p = Unit {0}
 
 -- so for a number of steps, or until the play is cut off
 abbrev pub Meets : Names → List Op → (below : List Value) → ℕ → Play Value → Frame → State → Type 0

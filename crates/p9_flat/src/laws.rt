@@ -1,6 +1,7 @@
 // Laws of the definitions in `specs/`. Each function does nothing; its contract is the law.
 ghost use Rattle.p9_flat.specs.Laws.{CodeIsRight};
-ghost use Rattle.p9_flat.specs.Machine.{MachineIsRight};
+ghost use Rattle.p9_flat.specs.Machine.{MachineIsRight, StartIsRight};
+ghost use Rattle.p9_flat.specs.Program.{ProgramsHaveTables};
 
 /// The code of a function plays what the function's body does, wherever it stands and with any arguments.
 /// What has no meaning in the source has none in the code, at the same node.
@@ -14,4 +15,16 @@ pub fn code_is_right()
 #[tactic(auto, using(crate::proofs::Keeping::machine_is_right))]
 pub fn machine_is_right()
     ensures { MachineIsRight }
+{}
+
+/// It begins a first call so that its run comes to what the call comes to.
+#[tactic(auto, using(crate::proofs::Keeping::start_is_right))]
+pub fn start_is_right()
+    ensures { StartIsRight }
+{}
+
+/// The functions of a program have such a table, where its code has the code of each.
+#[tactic(auto, using(crate::proofs::Programs::programs_have_tables))]
+pub fn programs_have_tables()
+    ensures { ProgramsHaveTables }
 {}

@@ -6,5 +6,5 @@
 mod laws;
 mod op;
 
-pub use laws::{code_is_right, machine_is_right};
+pub use laws::{code_is_right, machine_is_right, programs_have_tables, start_is_right};
 pub use op::{Op, Operation, Scalar};

@@ -94,6 +94,8 @@ pub enum Op {
     NoMeaning(u32),
     /// What has no meaning at the node that called.
     Stray,
+    /// A function or a type to which no number was given.
+    Unnumbered,
     /// Pushes no value, of the node that called.
     Nothing,
     Return,
