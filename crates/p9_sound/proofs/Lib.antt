@@ -5,3 +5,5 @@ pub mod Labels
 pub mod Ending
 pub mod Operands
 pub mod Nodes
+pub mod Constants
+pub mod Expressions

@@ -3,4 +3,7 @@
 
 mod laws;
 
-pub use laws::{labels_stay, nodes_are_typed};
+pub use laws::{
+    earlier_labels_stay, labels_stay, nodes_are_typed, typed_constants_are_integers,
+    typed_expressions_are_sound,
+};
