@@ -7,3 +7,6 @@ pub mod Operands
 pub mod Nodes
 pub mod Constants
 pub mod Expressions
+pub mod Counts
+pub mod NamesOf
+pub mod Automatics
