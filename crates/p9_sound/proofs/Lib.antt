@@ -10,3 +10,4 @@ pub mod Expressions
 pub mod Counts
 pub mod NamesOf
 pub mod Automatics
+pub mod Statements

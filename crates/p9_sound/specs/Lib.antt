@@ -3,3 +3,4 @@ pub mod Nodes
 pub mod Constants
 pub mod Expressions
 pub mod Automatics
+pub mod Statements
