@@ -11,3 +11,4 @@ pub mod Counts
 pub mod NamesOf
 pub mod Automatics
 pub mod Statements
+pub mod Items

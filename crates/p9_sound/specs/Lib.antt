@@ -4,3 +4,4 @@ pub mod Constants
 pub mod Expressions
 pub mod Automatics
 pub mod Statements
+pub mod Items

@@ -4,6 +4,7 @@ ghost use Rattle.p9_sound.specs.Nodes.{NodesAreTyped};
 ghost use Rattle.p9_sound.specs.Constants.{TypedConstantsAreIntegers};
 ghost use Rattle.p9_sound.specs.Automatics.{AutomaticsAreNumbered};
 ghost use Rattle.p9_sound.specs.Statements.{NumberedBlocksAreKnown, TypedStatementsAreSound};
+ghost use Rattle.p9_sound.specs.Items.{CodeItemsAreSound};
 ghost use Rattle.p9_sound.specs.Expressions.{TypedExpressionsAreSound};
 
 /// Behind a node that is typed, the nodes before it have the types and meanings that they had, but for
@@ -56,4 +57,10 @@ pub fn numbered_blocks_are_known()
 #[tactic(auto, using(crate::proofs::Statements::typed_statements_are_sound))]
 pub fn typed_statements_are_sound()
     ensures { TypedStatementsAreSound }
+{}
+
+/// The functions that a module's symbols name are items of its file.
+#[tactic(auto, using(crate::proofs::Items::code_items_are_sound))]
+pub fn code_items_are_sound()
+    ensures { CodeItemsAreSound }
 {}
