@@ -1,15 +1,16 @@
 -- The recursion of typing: labels stay.
-use Rattle.std.proofs.Common.{◌≡◌, ℕ, ◌+◌, Bool, true, false, if◌then◌else◌, ◌==◌, List, [], ◌∷◌, ◌++◌, Ok, Err, ap, subst}
+use Rattle.std.proofs.Common.{◌≡◌, ℕ, Bool, true, false, if◌then◌else◌, ◌==◌, List, [], ◌∷◌, ◌++◌, Ok, Err, ap, subst, ◌<◌, zero, suc, length, Some, slice_get, refl, sym, ◌∙◌, arith}
 use Rattle.p9_lang.specs.declared.tree.Kind.{Kind}
+use Rattle.p9_lang.specs.declared.tree.Kind.TheVariants as kind
 use Rattle.p9_lang.specs.Trees.{node, none, more, Syntax, SyntaxRow}
 use Rattle.p9_lang.specs.Rules.{Rule, and_then, first_of}
-use Rattle.p9_lang.specs.Scopes.{Known}
+use Rattle.p9_lang.specs.Scopes.{Known, next_node}
 use Rattle.p9_lang.specs.Parts.{Context, Part, Frame, Judged, kind_at}
 use Rattle.p9_lang.specs.Opening.{opened, context}
 use Rattle.p9_lang.specs.Declaring.{broken_rules, behind}
 use Rattle.p9_lang.specs.Typing.{judge, judge_parts, role_rules, with_rules}
 use Rattle.p9_lang.proofs.Counting.{then_of, unless_of}
-use Rattle.p9_sound.specs.Labels.{AreKnown, LabelsStay}
+use Rattle.p9_sound.specs.Labels.{AreKnown, IsShut, LabelsStay, EarlierLabelsStay}
 use Rattle.p9_sound.proofs.Numbering.{kinds_after, kinds_after_row, root, root_last, extends_self, extends_tree, extends_row}
 use Rattle.p9_sound.proofs.Staying.{Stays, still, then_stays, alike_known, alike_stays, Fits, AllHaveOpen, all_open_later, one_open_more, judged_adds}
 use Rattle.p9_sound.proofs.Closing.{opened_alike, behind_holds}
@@ -91,3 +92,27 @@ labels_stay kinds t c s r h e =
     let x = tree_stays kinds t c s h r e in
     let a = x.stay in
     record { types = a.types; means = a.means }
+
+-- The nodes before may be of any kinds, so of kinds that are shut.
+
+abbrev pub statements : ℕ → List Kind
+statements zero = []
+statements (suc n) = kind.Expression ∷ statements n
+
+pub statements_length : (n : ℕ) → length (statements n) ≡ n
+statements_length zero = refl
+statements_length (suc n) = ap suc (statements_length n)
+
+statement_there : (n m : ℕ) → m < n → slice_get (statements n) m ≡ Some kind.Expression
+statement_there zero m h = absurd (omega (arith, h))
+statement_there (suc n) zero h = refl
+statement_there (suc n) (suc m) h = statement_there n m (omega (arith, h))
+
+pub earlier_labels_stay : EarlierLabelsStay
+earlier_labels_stay t c s r h e n i =
+    let kinds = statements (next_node s) in
+    let all : AreKnown kinds s = record { types = sym (statements_length (next_node s)); means = h ∙ sym (statements_length (next_node s)) } in
+    let x = tree_stays kinds t c s all r e in
+    let a = x.stay in
+    let there : IsShut kinds n = record { found = kind.Expression; there = statement_there (next_node s) n i; shut = refl } in
+    (a.types n there, a.means n there)

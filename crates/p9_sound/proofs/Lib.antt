@@ -5,3 +5,10 @@ pub mod Labels
 pub mod Ending
 pub mod Operands
 pub mod Nodes
+pub mod Constants
+pub mod Expressions
+pub mod Counts
+pub mod NamesOf
+pub mod Automatics
+pub mod Statements
+pub mod Items

@@ -32,14 +32,14 @@ use Rattle.p9_sound.proofs.Operands.{IsOperand, AreOperands, one_operand_more, o
 
 -- A NODE that the table takes
 
-record Took (k : Kind) (parts : List Part) (s : Known) (r : Part × Known) : Type 0 where
-  is_statement : Bool
-  operands : List Operand
-  outcome : Verdict
-  are : operands_of parts ≡ Some operands
-  taken : verdict s.tags is_statement k operands ≡ Ok outcome
-  part : r.0 ≡ Value (operand outcome.type outcome.is_lvalue (constant_at s.tags k outcome.type Nothing operands))
-  known : with_node outcome.type Nothing s ≡ r.1
+pub record Took (k : Kind) (parts : List Part) (s : Known) (r : Part × Known) : Type 0 where
+  pub is_statement : Bool
+  pub operands : List Operand
+  pub outcome : Verdict
+  pub are : operands_of parts ≡ Some operands
+  pub taken : verdict s.tags is_statement k operands ≡ Ok outcome
+  pub part : r.0 ≡ Value (operand outcome.type outcome.is_lvalue (constant_at s.tags k outcome.type Nothing operands))
+  pub known : with_node outcome.type Nothing s ≡ r.1
 
 as_took : (k : Kind) (parts : List Part) (is_statement : Bool) (operands : List Operand) (m : Result Verdict Rule) (s : Known) (r : Part × Known)
     → operands_of parts ≡ Some operands → verdict s.tags is_statement k operands ≡ m → judged_as k operands m s ≡ Ok r → Took k parts s r
@@ -66,7 +66,7 @@ took_by k parts role (Some operands) s r a e =
 took : (k : Kind) (parts : List Part) (role : Role) (s : Known) (r : Part × Known) → judged_expression k role (operands_of parts) s ≡ Ok r → Took k parts s r
 took k parts role s r e = took_by k parts role (operands_of parts) s r refl e
 
-node_took : (k : Kind) (f : Frame) (parts : List Part) (s : Known) (r : Part × Known) → has_verdict k ≡ true → judged k f parts s ≡ Ok r → Took k parts s r
+pub node_took : (k : Kind) (f : Frame) (parts : List Part) (s : Known) (r : Part × Known) → has_verdict k ≡ true → judged k f parts s ≡ Ok r → Took k parts s r
 node_took kind.Index f parts s r h e = took kind.Index parts f.context.role s r e
 node_took kind.Call f parts s r h e = took kind.Call parts f.context.role s r e
 node_took (kind.Dot arrow x) f parts s r h e = took (kind.Dot arrow x) parts f.context.role s r e

@@ -1,5 +1,5 @@
 -- Kinds of nodes by their numbers, as more nodes come.
-use Rattle.std.proofs.Common.{◌≡◌, ◌<◌, ℕ, zero, suc, ◌+◌, true, false, List, [], ◌∷◌, ◌++◌, length, slice_get, slice_set, reverse, map, Option, Some, refl, sym, ap, subst, ◌∙◌, arith}
+use Rattle.std.proofs.Common.{◌≡◌, ◌<◌, ℕ, zero, suc, true, false, List, [], ◌∷◌, ◌++◌, length, slice_get, slice_set, reverse, map, Option, Some, refl, sym, ap, subst, ◌∙◌, arith}
 use Rattle.std.proofs.lemmas.Option.{slice_get_within}
 use Rattle.std.proofs.lemmas.Grind.{reverse_onto}
 use Rattle.p9_lang.specs.declared.tree.Kind.{Kind}
@@ -139,7 +139,7 @@ steps_with_length kinds n (step ∷ steps) h = (
   steps_with_length kinds n steps h.1,
 )
 
-name_number : (m : ℕ) (shape : Shape) (steps : List Step) (n : NameNode) → name_of (record { number = m; shape = shape } ∷ steps) ≡ Some n → n.number ≡ m
+pub name_number : (m : ℕ) (shape : Shape) (steps : List Step) (n : NameNode) → name_of (record { number = m; shape = shape } ∷ steps) ≡ Some n → n.number ≡ m
 name_number m (Names name) steps n e =
     let z : record { name = name; number = m } ≡ n = cc in ap (λ x. x.number) (sym z)
 name_number m Keeps steps n e = cc

@@ -1,10 +1,9 @@
 -- Behind a node that is typed, the nodes before it have their types and meanings still, but for those
 -- that wait; and structures keep their bodies.
-use Rattle.std.proofs.Common.{◌≡◌, ◌<◌, ℕ, suc, ◌+◌, ◌-◌, Bool, true, false, if◌then◌else◌, List, [], ◌∷◌, ◌++◌, length, slice_get, Option, Some, None, Result, Ok, Err, refl, sym, ap, subst, ◌∙◌}
+use Rattle.std.proofs.Common.{◌≡◌, ◌<◌, ℕ, suc, ◌+◌, Bool, true, false, if◌then◌else◌, List, [], ◌∷◌, ◌++◌, length, slice_get, Option, Some, None, Result, Ok, Err, refl, sym, ap, subst, ◌∙◌}
 use Rattle.p9_lang.specs.declared.tree.Kind.{Kind}
 use Rattle.p9_lang.specs.declared.tree.Kind.TheVariants as kind
 use Rattle.p9_lang.specs.declared.tree.EntryBy.{EntryBy}
-use Rattle.p9_lang.specs.Trees.{node, more}
 use Rattle.p9_lang.specs.Types.{TypeTree, Void, Int, Meant, Nothing, Static, TypeName}
 use Rattle.p9_lang.specs.Rules.{Rule, Malformed, Undeclared, at_node, Broken}
 use Rattle.p9_lang.specs.Scopes.{Known, Declared, with_node, next_node, close_level, close_block, in_levels}

@@ -1,9 +1,9 @@
 -- The labels of nodes while a file is typed: most stay as they were given.
-use Rattle.std.specs.Prelude.{◌≡◌, ℕ, Bool, true, false, List, length, slice_get, Some, Ok}
+use Rattle.std.specs.Prelude.{◌≡◌, ◌<◌, ℕ, Bool, true, false, List, length, slice_get, Some, Ok}
 use Rattle.p9_lang.specs.declared.tree.Kind.{Kind}
 use Rattle.p9_lang.specs.declared.tree.Kind.TheVariants as kind
 use Rattle.p9_lang.specs.Trees.{Syntax}
-use Rattle.p9_lang.specs.Scopes.{Known}
+use Rattle.p9_lang.specs.Scopes.{Known, next_node}
 use Rattle.p9_lang.specs.Parts.{Context, Part}
 use Rattle.p9_lang.specs.Typing.{judge}
 
@@ -37,3 +37,9 @@ abbrev pub LabelsStay : Type 0
 LabelsStay =
     (kinds : List Kind) (t : Syntax) (c : Context) (s : Known) (r : Part × Known)
     → AreKnown kinds s → judge t c s ≡ Ok r → LabelsAreKept kinds s r.1
+
+-- all nodes before the first of this one keep what they have
+abbrev pub EarlierLabelsStay : Type 0
+EarlierLabelsStay =
+    (t : Syntax) (c : Context) (s : Known) (r : Part × Known) → length s.means ≡ length s.types → judge t c s ≡ Ok r
+    → (n : ℕ) → n < next_node s → (slice_get r.1.types n ≡ slice_get s.types n) × (slice_get r.1.means n ≡ slice_get s.means n)

@@ -1,2 +1,7 @@
 pub mod Labels
 pub mod Nodes
+pub mod Constants
+pub mod Expressions
+pub mod Automatics
+pub mod Statements
+pub mod Items
