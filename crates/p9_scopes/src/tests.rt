@@ -1,7 +1,6 @@
-use crate::{Declared, Keyword, Known, NameLevel, Names};
+use crate::{Declared, Known, NameLevel, Names};
 use p9_base::NoMemory;
-use p9_lang::{Bind, CType, Ident, Member};
-use sqlite_items::Items;
+use p9_lang::{Bind, CType, Ident};
 use std::alloc::Global;
 use std::test::Fail;
 
@@ -73,56 +72,11 @@ fn levels(rt: HostRuntime) -> Result<(), Fail> {
 fn blocks(rt: HostRuntime) -> Result<(), Fail> {
     let x = ident(rt.alloc(), b"x")?;
     let mut known = first(rt.alloc())?;
-    assert!(rt; known.is_file_level());
-    known.declare(rt.alloc(), automatic(rt.alloc(), b"x", CType::Char)?)?;
     known.open_block(rt.alloc())?;
-    assert!(rt; !known.is_file_level());
+    known.declare(rt.alloc(), automatic(rt.alloc(), b"x", CType::Char)?)?;
     assert_eq!(rt; type_letter(known.find(&x)), b'c');
-    assert_eq!(rt; type_letter(known.find_innermost(&x)), b'-');
-    known.declare(rt.alloc(), automatic(rt.alloc(), b"x", CType::Int)?)?;
-    assert_eq!(rt; type_letter(known.find(&x)), b'i');
-    known.retype(rt.alloc(), &x, CType::Long)?;
-    assert_eq!(rt; type_letter(known.find_innermost(&x)), b'l');
     known.close_block();
-    assert_eq!(rt; type_letter(known.find(&x)), b'c');
-    Ok(())
-}
-
-#[test]
-fn opened_levels(rt: HostRuntime) -> Result<(), Fail> {
-    let x = ident(rt.alloc(), b"x")?;
-    let mut known = first(rt.alloc())?;
-    known.open_level(level(rt.alloc())?)?;
-    assert_eq!(rt; type_letter(known.find(&x)), b'i');
-    assert_eq!(rt; type_letter(known.find_before(&x)), b'c');
-    let closed = known.close_level(rt.alloc());
-    assert_eq!(rt; closed.as_slice().len(), 2);
     assert_eq!(rt; type_letter(known.find(&x)), b'-');
-    Ok(())
-}
-
-// `{ int k; }`
-fn body(alloc: Global) -> Result<Items<Member>, NoMemory> {
-    let mut members = Items::new(alloc);
-    members.push(Member {
-        name: ident(alloc, b"k")?,
-        ty: CType::Int,
-    })?;
-    Ok(members)
-}
-
-#[test]
-fn structures(rt: HostRuntime) -> Result<(), Fail> {
-    let name = ident(rt.alloc(), b"S")?;
-    let mut known = first(rt.alloc())?;
-    let tagged = known.tagged_as(rt.alloc(), Keyword::Struct, &name, true)?;
-    assert!(rt; !tagged.is_redeclared);
-    known.complete_tag(rt.alloc(), tagged.number, body(rt.alloc())?)?;
-    let again = known.tagged_as(rt.alloc(), Keyword::Struct, &name, false)?;
-    assert_eq!(rt; again.number, tagged.number);
-    let other = known.tagged_as(rt.alloc(), Keyword::Union, &name, false)?;
-    assert!(rt; other.is_redeclared);
-    assert_eq!(rt; known.tags().list.len(), 2);
     Ok(())
 }
 
