@@ -11,3 +11,5 @@ pub mod Stmts
 pub mod Whole
 pub mod Keeping
 pub mod Programs
+pub mod Brief
+pub mod BriefExprs
