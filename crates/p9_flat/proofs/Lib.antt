@@ -13,3 +13,4 @@ pub mod Keeping
 pub mod Programs
 pub mod Brief
 pub mod BriefExprs
+pub mod BriefStmts
