@@ -30,20 +30,20 @@ pub record BriefTest (code : List Op) (bound otherwise pc : ℕ) (piece : List O
       → UpTo code bound k (length piece + n) pc
 
 module _ (code : List Op) (bound : ℕ) where
-  ends_more : (k m n : ℕ) → m ≤ n → (ends : Ends) → EndsUpTo code bound k m ends → EndsUpTo code bound k n ends
+  pub ends_more : (k m n : ℕ) → m ≤ n → (ends : Ends) → EndsUpTo code bound k m ends → EndsUpTo code bound k n ends
   ends_more k m n le ends h = record {
     at_broke = brief_more code bound k m n ends.broke le h.at_broke;
     at_continued = brief_more code bound k m n ends.continued le h.at_continued;
     at_returned = brief_more code bound k m n ends.returned le h.at_returned;
   }
 
-  fewer : (j k n pc : ℕ) → j ≤ k → UpTo code bound k n pc → UpTo code bound j n pc
+  pub fewer : (j k n pc : ℕ) → j ≤ k → UpTo code bound k n pc → UpTo code bound j n pc
   fewer j k n pc le h turns less = h turns (omega (arith, le, less))
 
-  of_brief : {ends : Ends} {pc : ℕ} {piece : List Op} → Brief code bound pc piece → BriefIn code bound ends pc piece
+  pub of_brief : {ends : Ends} {pc : ℕ} {piece : List Op} → Brief code bound pc piece → BriefIn code bound ends pc piece
   of_brief {ends} {pc} {piece} h = record { brief_in = λ stands k n le s e. h.brief stands k n s }
 
-  in_seq : {ends : Ends} {pc : ℕ} {first rest : List Op} → BriefIn code bound ends pc first → BriefIn code bound ends (pc + length first) rest → BriefIn code bound ends pc (first ++ rest)
+  pub in_seq : {ends : Ends} {pc : ℕ} {first rest : List Op} → BriefIn code bound ends pc first → BriefIn code bound ends (pc + length first) rest → BriefIn code bound ends pc (first ++ rest)
   in_seq {ends} {pc} {first} {rest} one two = record {
     brief_in = λ h k n le s e.
         let l = length-append first rest in
@@ -54,16 +54,16 @@ module _ (code : List Op) (bound : ℕ) where
         (ends_more k n (length rest + n) (omega arith) ends e));
   }
 
-  jumping : (ends : Ends) (pc to : ℕ) → ((k n : ℕ) → EndsUpTo code bound k n ends → UpTo code bound k n to) → BriefIn code bound ends pc (op.Jump to ∷ [])
+  pub jumping : (ends : Ends) (pc to : ℕ) → ((k n : ℕ) → EndsUpTo code bound k n ends → UpTo code bound k n to) → BriefIn code bound ends pc (op.Jump to ∷ [])
   jumping ends pc to at = record {
     brief_in = λ h k n le s e.
         brief_more code bound k (suc n) (length (op.Jump to ∷ []) + n) pc (omega arith) (brief_step code bound k n pc (op.Jump to) h.0 refl (at k n e, tt));
   }
 
-  returning : (ends : Ends) (pc : ℕ) → BriefIn code bound ends pc (op.Jump ends.returned ∷ [])
+  pub returning : (ends : Ends) (pc : ℕ) → BriefIn code bound ends pc (op.Jump ends.returned ∷ [])
   returning ends pc = jumping ends pc ends.returned (λ k n e. e.at_returned)
 
-  giving_nothing : (ends : Ends) (pc : ℕ) → BriefIn code bound ends pc (op.Nothing ∷ op.Jump ends.returned ∷ [])
+  pub giving_nothing : (ends : Ends) (pc : ℕ) → BriefIn code bound ends pc (op.Nothing ∷ op.Jump ends.returned ∷ [])
   giving_nothing ends pc = record {
     brief_in = λ h k n le s e.
         brief_more code bound k (suc (suc n)) (length (op.Nothing ∷ op.Jump ends.returned ∷ []) + n) pc (omega arith)
@@ -72,7 +72,7 @@ module _ (code : List Op) (bound : ℕ) where
 
   -- TESTS
 
-  choice_in : (ends : Ends) (o : Option Bool) (pc here : ℕ) (first second : ℕ → List Op)
+  pub choice_in : (ends : Ends) (o : Option Bool) (pc here : ℕ) (first second : ℕ → List Op)
       → ((n : ℕ) → BriefIn code bound ends n (first n)) → ((n : ℕ) → BriefIn code bound ends n (second n)) → BriefIn code bound ends pc (choice_code o here pc first second)
   choice_in ends None pc here first second one two = of_brief lacks_of_brief
   choice_in ends (Some of_pointer) pc here first second one two = record {
@@ -95,7 +95,7 @@ module _ (code : List Op) (bound : ℕ) where
         (brief_more code bound k (length b + n) far z (omega arith) ((two z).brief_in tail.1 k n (omega (arith, l, le)) end e), tt)));
   }
 
-  if_in : (ends : Ends) (o : Option Bool) (pc here : ℕ) (first : ℕ → List Op) → ((n : ℕ) → BriefIn code bound ends n (first n)) → BriefIn code bound ends pc (if_code o here pc first)
+  pub if_in : (ends : Ends) (o : Option Bool) (pc here : ℕ) (first : ℕ → List Op) → ((n : ℕ) → BriefIn code bound ends n (first n)) → BriefIn code bound ends pc (if_code o here pc first)
   if_in ends None pc here first one = of_brief lacks_of_brief
   if_in ends (Some of_pointer) pc here first one = record {
     brief_in = λ h k n le s e.
@@ -114,7 +114,7 @@ module _ (code : List Op) (bound : ℕ) where
         (brief_step code bound k n pc (op.Branch of_pointer here otherwise) h.0 refl (subst (λ j. UpTo code bound k n j) (omega arith) s, (e, tt)));
   }
 
-  condition_test : (setting : Setting) (here otherwise pc : ℕ) (e : Typed) → BriefTest code bound otherwise pc (condition_code setting here otherwise pc e)
+  pub condition_test : (setting : Setting) (here otherwise pc : ℕ) (e : Typed) → BriefTest code bound otherwise pc (condition_code setting here otherwise pc e)
   condition_test setting here otherwise pc e = record {
     brief_test = λ h k n s other.
         let first : List Op = value_code setting pc e in
@@ -126,10 +126,10 @@ module _ (code : List Op) (bound : ℕ) where
         ((branch_test (tests (operand_type e)) m here otherwise).brief_test (has_second code pc first rest m refl h) k n (subst (λ j. UpTo code bound k n j) (omega (arith, l)) s) other));
   }
 
-  always_test : (otherwise pc : ℕ) → BriefTest code bound otherwise pc []
+  pub always_test : (otherwise pc : ℕ) → BriefTest code bound otherwise pc []
   always_test otherwise pc = record { brief_test = λ h k n s e. brief_none.brief h k n s }
 
-  effect_brief : (setting : Setting) (pc : ℕ) (e : Typed) → Brief code bound pc (effect_code setting pc e)
+  pub effect_brief : (setting : Setting) (pc : ℕ) (e : Typed) → Brief code bound pc (effect_code setting pc e)
   effect_brief setting pc e = brief_seq (value_brief code bound setting e pc) (single refl refl)
 
   -- INITIALISERS AND BLOCKS
@@ -141,7 +141,7 @@ module _ (code : List Op) (bound : ℕ) where
       brief_seq (meant_brief code bound setting name.type name.means pc name.number)
       (brief_seq (value_brief code bound setting e _) (brief_seq (assign_brief code bound setting.around e name.type _ name.number) (single refl refl)))
 
-  initials_brief : (setting : Setting) (ds : List Automatic) (pc : ℕ) → Brief code bound pc (initials_code setting pc ds)
+  pub initials_brief : (setting : Setting) (ds : List Automatic) (pc : ℕ) → Brief code bound pc (initials_code setting pc ds)
   initials_brief setting [] pc = brief_none
   initials_brief setting (d ∷ ds) pc = brief_seq (initial_by setting d.number d.name d.initialiser pc) (initials_brief setting ds _)
 
@@ -155,7 +155,7 @@ module _ (code : List Op) (bound : ℕ) where
   dying k n pc alive to there jump at =
       brief_step code bound k (suc n) pc (op.Leave alive) there refl (brief_step code bound k n (suc pc) (op.Jump to) jump refl (at, tt), tt)
 
-  block_in : (ds : List Declared) (body : Setting → Ends → ℕ → List Op) → ((setting : Setting) (ends : Ends) (pc : ℕ) → BriefIn code bound ends pc (body setting ends pc))
+  pub block_in : (ds : List Declared) (body : Setting → Ends → ℕ → List Op) → ((setting : Setting) (ends : Ends) (pc : ℕ) → BriefIn code bound ends pc (body setting ends pc))
       → (setting : Setting) (ends : Ends) (pc : ℕ) → BriefIn code bound ends pc (block_code setting ends pc ds body)
   block_in [] body is setting ends pc = is setting ends pc
   block_in (d ∷ ds) body is setting ends pc = record {

@@ -14,3 +14,4 @@ pub mod Programs
 pub mod Brief
 pub mod BriefExprs
 pub mod BriefStmts
+pub mod BriefLoops
