@@ -122,11 +122,12 @@ choice_brief code bound (Some of_pointer) pc here first second one two = record 
       let end : UpTo code bound k n (z + length b) = subst (λ j. UpTo code bound k n j) (omega (arith, l)) s in
       let far : ℕ = length a + suc (length b + n) in
       let leap : UpTo code bound k (suc (length b + n)) (suc pc + length a) =
-          subst (λ j. UpTo code bound k (suc (length b + n)) j) (omega arith)
-          (brief_more code bound k (suc n) (suc (length b + n)) (suc (pc + length a)) (omega arith)
-          (brief_step code bound k n (suc (pc + length a)) jump tail.0 refl (end, tt))) in
+      subst (λ j. UpTo code bound k (suc (length b + n)) j) (omega arith)
+      (brief_more code bound k (suc n) (suc (length b + n)) (suc (pc + length a)) (omega arith)
+      (brief_step code bound k n (suc (pc + length a)) jump tail.0 refl (end, tt))) in
       brief_more code bound k (suc far) (length (choice_code (Some of_pointer) here pc first second) + n) pc (omega (arith, l))
-      (brief_step code bound k far pc (op.Branch of_pointer here z) h.0 refl
-      ((one (suc pc)).brief (has_first code (suc pc) a (jump ∷ b) h.1) k (suc (length b + n)) leap,
-      (brief_more code bound k (length b + n) far z (omega arith) ((two z).brief tail.1 k n end), tt)));
+      (brief_step code bound k far pc (op.Branch of_pointer here z) h.0 refl (
+        (one (suc pc)).brief (has_first code (suc pc) a (jump ∷ b) h.1) k (suc (length b + n)) leap,
+        (brief_more code bound k (length b + n) far z (omega arith) ((two z).brief tail.1 k n end), tt),
+      ));
 }

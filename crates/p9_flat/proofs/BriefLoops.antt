@@ -90,9 +90,11 @@ module _ (code : List Op) (bound : ℕ) where
           let turned = turned_up n k out step_stands test_stands two.0 body_stands back e fits k (omega arith) in
           let m : ℕ = length test_part + suc n in
           brief_more code bound k (suc m) (length (turning tested pc step_part test_part body_part) + n) pc (omega (arith, a, b, c))
-          (brief_step code bound k m pc (op.Jump (if tested then tested_at else turned_at)) h.0 refl
-          (entered tested k m (test_up n k out step_stands test_stands two.0 body_stands back e fits k (omega arith) turned)
-          (brief_more code bound k (suc n) m turned_at (omega arith) (turn_up n k out step_stands test_stands two.0 body_stands back e fits k n turned)), tt));
+          (brief_step code bound k m pc (op.Jump (if tested then tested_at else turned_at)) h.0 refl (
+            entered tested k m (test_up n k out step_stands test_stands two.0 body_stands back e fits k (omega arith) turned)
+                (brief_more code bound k (suc n) m turned_at (omega arith) (turn_up n k out step_stands test_stands two.0 body_stands back e fits k n turned)),
+            tt,
+          ));
     }
       where
         entered : (b : Bool) (k m : ℕ) → UpTo code bound k m tested_at → UpTo code bound k m turned_at → UpTo code bound k m (if b then tested_at else turned_at)
@@ -134,11 +136,11 @@ module _ (code : List Op) (bound : ℕ) where
   switch_in : (setting : Setting) (ends : Ends) (here pc : ℕ) (arms : TypedRow)
       → BriefIn code bound (record ends { broke = suc (suc pc) }) (suc (suc (suc pc))) (statements_code setting (record ends { broke = suc (suc pc) }) (suc (suc (suc pc))) arms)
       → (HasAt code (suc (suc (suc pc))) (statements_code setting (record ends { broke = suc (suc pc) }) (suc (suc (suc pc))) arms) → (k n : ℕ)
-        → length (statements_code setting (record ends { broke = suc (suc pc) }) (suc (suc (suc pc))) arms) + n ≤ bound
-        → UpTo code bound k n (suc (suc (suc pc)) + length (statements_code setting (record ends { broke = suc (suc pc) }) (suc (suc (suc pc))) arms))
-        → EndsUpTo code bound k n (record ends { broke = suc (suc pc) })
-        → (j : ℕ) → UpTo code bound k (length (statements_code setting (record ends { broke = suc (suc pc) }) (suc (suc (suc pc))) arms) + n)
-        (arm_at setting (record ends { broke = suc (suc pc) }) (suc (suc (suc pc))) arms j))
+      → length (statements_code setting (record ends { broke = suc (suc pc) }) (suc (suc (suc pc))) arms) + n ≤ bound
+      → UpTo code bound k n (suc (suc (suc pc)) + length (statements_code setting (record ends { broke = suc (suc pc) }) (suc (suc (suc pc))) arms))
+      → EndsUpTo code bound k n (record ends { broke = suc (suc pc) })
+      → (j : ℕ) → UpTo code bound k (length (statements_code setting (record ends { broke = suc (suc pc) }) (suc (suc (suc pc))) arms) + n)
+      (arm_at setting (record ends { broke = suc (suc pc) }) (suc (suc (suc pc))) arms j))
       → BriefIn code bound ends pc (switching here pc (statements_code setting (record ends { broke = suc (suc pc) }) (suc (suc (suc pc))) arms)
       (labels_code setting (record ends { broke = suc (suc pc) }) (suc (suc (suc pc))) arms)
       (default_at setting (record ends { broke = suc (suc pc) }) (suc (suc (suc pc))) (suc (suc pc)) arms))
@@ -158,23 +160,23 @@ module _ (code : List Op) (bound : ℕ) where
         let end : UpTo code bound k n out_at = subst (λ q. UpTo code bound k n q) (omega (arith, l, j)) s in
         let out : UpTo code bound k (suc n) (suc (suc pc)) = brief_step code bound k n (suc (suc pc)) (op.Jump out_at) h.1.1.0 refl (end, tt) in
         let behind : UpTo code bound k (suc (suc n)) (suc (suc (suc pc)) + length a) =
-            brief_step code bound k (suc n) (suc (suc (suc pc)) + length a) (op.Jump (suc (suc pc))) rest.0 refl (out, tt) in
+        brief_step code bound k (suc n) (suc (suc (suc pc)) + length a) (op.Jump (suc (suc pc))) rest.0 refl (out, tt) in
         let m : ℕ = length a + suc (suc n) in
         let arms_are = arms_at (has_first code (suc (suc (suc pc))) a (op.Jump (suc (suc pc)) ∷ (b ++ last)) h.1.1.1) k (suc (suc n)) (omega (arith, l, j, le)) behind
-            (record {
-              at_broke = brief_more code bound k (suc n) (suc (suc n)) (suc (suc pc)) (omega arith) out;
-              at_continued = brief_more code bound k n (suc (suc n)) ends.continued (omega arith) e.at_continued;
-              at_returned = brief_more code bound k n (suc (suc n)) ends.returned (omega arith) e.at_returned;
-            }) in
+        (record {
+          at_broke = brief_more code bound k (suc n) (suc (suc n)) (suc (suc pc)) (omega arith) out;
+          at_continued = brief_more code bound k n (suc (suc n)) ends.continued (omega arith) e.at_continued;
+          at_returned = brief_more code bound k n (suc (suc n)) ends.returned (omega arith) e.at_returned;
+        }) in
         let default_is_up : UpTo code bound k m default_place =
-            subst (λ q. UpTo code bound k m q) (sym (default_is setting outs arms (suc (suc (suc pc))) (suc (suc pc))))
-            (arm_up setting outs k m (suc (suc (suc pc))) (suc (suc pc)) arms (parts_before is_default arms)
-            (brief_more code bound k (suc n) m (suc (suc pc)) (omega arith) out) arms_are) in
+        subst (λ q. UpTo code bound k m q) (sym (default_is setting outs arms (suc (suc (suc pc))) (suc (suc pc))))
+        (arm_up setting outs k m (suc (suc (suc pc))) (suc (suc pc)) arms (parts_before is_default arms)
+        (brief_more code bound k (suc n) m (suc (suc pc)) (omega arith) out) arms_are) in
         let at_last : UpTo code bound k (suc (suc m)) (labels_at + length b) =
-            brief_step code bound k (suc m) (labels_at + length b) op.Pop tail.0 refl
-            (brief_step code bound k m (suc (labels_at + length b)) (op.Jump default_place) tail.1.0 refl (default_is_up, tt), tt) in
+        brief_step code bound k (suc m) (labels_at + length b) op.Pop tail.0 refl
+        (brief_step code bound k m (suc (labels_at + length b)) (op.Jump default_place) tail.1.0 refl (default_is_up, tt), tt) in
         let at_labels : UpTo code bound k (length b + suc (suc m)) labels_at =
-            labels_brief setting outs arms (suc (suc (suc pc))) labels_at k m (suc (suc m)) (has_first code labels_at b last rest.1) arms_are (omega arith) at_last in
+        labels_brief setting outs arms (suc (suc (suc pc))) labels_at k m (suc (suc m)) (has_first code labels_at b last rest.1) arms_are (omega arith) at_last in
         brief_more code bound k (suc (suc (length b + suc (suc m)))) (length (switching here pc a b default_place) + n) pc (omega (arith, l, j))
         (brief_step code bound k (suc (length b + suc (suc m))) pc (op.Narrow scalar.Word here) h.0 refl
         (brief_step code bound k (length b + suc (suc m)) (suc pc) (op.Jump labels_at) h.1.0 refl (at_labels, tt), tt));
@@ -264,9 +266,9 @@ module _ (code : List Op) (bound : ℕ) where
       let l = length-append a (op.Nothing ∷ op.Jump pc ∷ []) in
       let tail = has_second code (entry_at pc) a (op.Nothing ∷ op.Jump pc ∷ []) stop refl h.1.1.1.1 in
       let given : UpTo code bound turns 2 pc =
-          brief_step code bound turns 1 pc (op.Leave 0) h.0 refl (brief_step code bound turns 0 (suc pc) op.Return h.1.0 refl tt, tt) in
+      brief_step code bound turns 1 pc (op.Leave 0) h.0 refl (brief_step code bound turns 0 (suc pc) op.Return h.1.0 refl tt, tt) in
       let astray : UpTo code bound turns 2 (suc (suc pc)) =
-          brief_step code bound turns 1 (suc (suc pc)) (op.Leave 0) h.1.1.0 refl (brief_step code bound turns 0 (suc (suc (suc pc))) op.Stray h.1.1.1.0 refl tt, tt) in
+      brief_step code bound turns 1 (suc (suc pc)) (op.Leave 0) h.1.1.0 refl (brief_step code bound turns 0 (suc (suc (suc pc))) op.Stray h.1.1.1.0 refl tt, tt) in
       brief_more code bound turns (length a + 4) bound (entry_at pc) (omega (arith, l, le))
       ((statement_in block setting (function_ends pc) (entry_at pc)).brief_in (has_first code (entry_at pc) a (op.Nothing ∷ op.Jump pc ∷ []) h.1.1.1.1) turns 4 (omega (arith, l, le))
       (brief_step code bound turns 3 stop op.Nothing tail.0 refl (brief_step code bound turns 2 (suc stop) (op.Jump pc) tail.1.0 refl (given, tt), tt))

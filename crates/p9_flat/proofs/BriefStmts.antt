@@ -86,13 +86,14 @@ module _ (code : List Op) (bound : ℕ) where
         let end : UpTo code bound k n (z + length b) = subst (λ j. UpTo code bound k n j) (omega (arith, l)) s in
         let far : ℕ = length a + suc (length b + n) in
         let leap : UpTo code bound k (suc (length b + n)) (suc pc + length a) =
-            subst (λ j. UpTo code bound k (suc (length b + n)) j) (omega arith)
-            (brief_more code bound k (suc n) (suc (length b + n)) (suc (pc + length a)) (omega arith)
-            (brief_step code bound k n (suc (pc + length a)) jump tail.0 refl (end, tt))) in
+        subst (λ j. UpTo code bound k (suc (length b + n)) j) (omega arith)
+        (brief_more code bound k (suc n) (suc (length b + n)) (suc (pc + length a)) (omega arith)
+        (brief_step code bound k n (suc (pc + length a)) jump tail.0 refl (end, tt))) in
         brief_more code bound k (suc far) (length (choice_code (Some of_pointer) here pc first second) + n) pc (omega (arith, l))
-        (brief_step code bound k far pc (op.Branch of_pointer here z) h.0 refl
-        ((one (suc pc)).brief_in (has_first code (suc pc) a (jump ∷ b) h.1) k (suc (length b + n)) (omega (arith, l, le)) leap (ends_more k n (suc (length b + n)) (omega arith) ends e),
-        (brief_more code bound k (length b + n) far z (omega arith) ((two z).brief_in tail.1 k n (omega (arith, l, le)) end e), tt)));
+        (brief_step code bound k far pc (op.Branch of_pointer here z) h.0 refl (
+          (one (suc pc)).brief_in (has_first code (suc pc) a (jump ∷ b) h.1) k (suc (length b + n)) (omega (arith, l, le)) leap (ends_more k n (suc (length b + n)) (omega arith) ends e),
+          (brief_more code bound k (length b + n) far z (omega arith) ((two z).brief_in tail.1 k n (omega (arith, l, le)) end e), tt),
+        ));
   }
 
   pub if_in : (ends : Ends) (o : Option Bool) (pc here : ℕ) (first : ℕ → List Op) → ((n : ℕ) → BriefIn code bound ends n (first n)) → BriefIn code bound ends pc (if_code o here pc first)
@@ -174,12 +175,14 @@ module _ (code : List Op) (bound : ℕ) where
         let at_stop : UpTo code bound k (suc n) stop = brief_step code bound k n stop (op.Leave setting.alive) leaving refl (end, tt) in
         brief_more code bound k (length first + suc (length inner + suc (suc n))) (length (first ++ rest) + n) pc (omega (arith, l, j))
         ((makes_brief setting.around.tags (d ∷ ds) pc).brief (has_first code pc first rest h) k (suc (length inner + suc (suc n)))
-        (brief_step code bound k (length inner + suc (suc n)) m (op.Jump (body_at (suc m))) stands.0 refl
-        ((is (within setting (d ∷ ds)) (ends_at (suc m)) (body_at (suc m))).brief_in (has_first code (body_at (suc m)) inner (op.Leave setting.alive ∷ []) body_stands) k (suc (suc n))
-        (omega (arith, l, j, le)) (brief_more code bound k (suc n) (suc (suc n)) stop (omega arith) at_stop)
-        (record {
-          at_broke = dying k n (suc m) setting.alive ends.broke stands.1.0 stands.1.1.0 e.at_broke;
-          at_continued = dying k n (suc (suc (suc m))) setting.alive ends.continued stands.1.1.1.0 stands.1.1.1.1.0 e.at_continued;
-          at_returned = dying k n (suc (suc (suc (suc (suc m))))) setting.alive ends.returned stands.1.1.1.1.1.0 stands.1.1.1.1.1.1.0 e.at_returned;
-        }), tt)));
+        (brief_step code bound k (length inner + suc (suc n)) m (op.Jump (body_at (suc m))) stands.0 refl (
+          (is (within setting (d ∷ ds)) (ends_at (suc m)) (body_at (suc m))).brief_in (has_first code (body_at (suc m)) inner (op.Leave setting.alive ∷ []) body_stands) k (suc (suc n))
+              (omega (arith, l, j, le)) (brief_more code bound k (suc n) (suc (suc n)) stop (omega arith) at_stop)
+              (record {
+                at_broke = dying k n (suc m) setting.alive ends.broke stands.1.0 stands.1.1.0 e.at_broke;
+                at_continued = dying k n (suc (suc (suc m))) setting.alive ends.continued stands.1.1.1.0 stands.1.1.1.1.0 e.at_continued;
+                at_returned = dying k n (suc (suc (suc (suc (suc m))))) setting.alive ends.returned stands.1.1.1.1.1.0 stands.1.1.1.1.1.1.0 e.at_returned;
+              }),
+          tt,
+        )));
   }

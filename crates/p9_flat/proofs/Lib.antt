@@ -15,3 +15,4 @@ pub mod Brief
 pub mod BriefExprs
 pub mod BriefStmts
 pub mod BriefLoops
+pub mod Ends

@@ -1,10 +1,15 @@
 -- How long code goes on without a turn.
-use Rattle.std.specs.Prelude.{◌≤◌, ◌<◌, ℕ, zero, suc, ◌+◌, ◌*◌, List, [], ◌∷◌, Option, Some, None, slice_get}
-use Rattle.p9_cmean.specs.Cells.{FunctionName}
+use Rattle.std.specs.Prelude.{◌≡◌, ◌≤◌, ◌<◌, ℕ, zero, suc, ◌+◌, List, [], ◌∷◌, Option, Some, None, length, slice_get}
+use Rattle.p9_cmean.specs.Cells.{FunctionName, State}
+use Rattle.p9_cmean.specs.Plays.{Call}
+use Rattle.p9_cmean.specs.Union.{FunctionEntry, Union}
+use Rattle.p9_cmean.specs.CRun.{Defined, callee, surroundings}
+use Rattle.p9_flat.specs.Code.{Numbers}
+use Rattle.p9_flat.specs.Program.{IsLinked, table_of}
 use Rattle.p9_flat.specs.declared.op.Op.{Op}
 use Rattle.p9_flat.specs.declared.op.Op.TheVariants as op
-use Rattle.p9_flat.specs.Flat.{entry_at}
-use Rattle.p9_flat.specs.Machine.{Entry, Code, System, Bare, Table, Waiting, Config, Advance, On, Stops, Lost, Unsaid, advance}
+use Rattle.p9_flat.specs.Flat.{entry_at, function_code}
+use Rattle.p9_flat.specs.Machine.{Entry, Code, System, Bare, Table, Waiting, Config, Advance, On, Stops, Lost, Unsaid, starts, advance}
 use Rattle.p9_flat.specs.Step.{Names}
 
 -- where a call may go on behind an operation
@@ -63,13 +68,18 @@ abbrev pub total : List ℕ → ℕ
 total [] = 0
 total (n ∷ ns) = n + total ns
 
+-- the steps that so many turns allow
+abbrev pub for_turns : (bound turns : ℕ) → ℕ
+for_turns bound zero = 0
+for_turns bound (suc turns) = suc bound + for_turns bound turns
+
 -- at most so many steps are left
 pub record EndsWithin (code : List Op) (bound steps : ℕ) (c : Config) : Type 0 where
   pub here : ℕ
   pub others : List ℕ
   pub top_is : IsBrief code bound here c.top.pc
   pub waiting_are : WaitsBriefly code bound others c.waiting
-  pub sum_is : (here + total others) + c.turns * suc bound ≤ steps
+  pub sum_is : (here + total others) + for_turns bound c.turns ≤ steps
 
 abbrev pub EndsSooner : List Op → (bound steps : ℕ) → Advance → Type 0
 EndsSooner code bound steps (On c) = (fewer : ℕ) × (fewer < steps) × EndsWithin code bound fewer c
@@ -77,8 +87,32 @@ EndsSooner code bound steps (Stops outcome) = Unit {0}
 EndsSooner code bound steps Lost = Unit {0}
 EndsSooner code bound steps Unsaid = Unit {0}
 
+abbrev pub EndsBy : List Op → (bound steps : ℕ) → Advance → Type 0
+EndsBy code bound steps (On c) = EndsWithin code bound steps c
+EndsBy code bound steps (Stops outcome) = Unit {0}
+EndsBy code bound steps Lost = Unit {0}
+EndsBy code bound steps Unsaid = Unit {0}
+
+abbrev pub TableIsBrief : List Op → (bound : ℕ) → Table → Type 0
+TableIsBrief code bound table = (name : FunctionName) → EntryIsBrief code bound (table name)
+
 -- Each step leaves fewer, where the code of every function is brief.
 abbrev pub MachineEnds : Type 0
 MachineEnds =
-    (names : Names) (code : List Op) (table : Table) (bound : ℕ) → ((name : FunctionName) → EntryIsBrief code bound (table name))
+    (names : Names) (code : List Op) (table : Table) (bound : ℕ) → TableIsBrief code bound table
     → (steps : ℕ) (c : Config) → EndsWithin code bound steps c → EndsSooner code bound steps (advance names code table c)
+
+-- At its start it has as many as its turns allow.
+abbrev pub StartEnds : Type 0
+StartEnds =
+    (code : List Op) (table : Table) (bound : ℕ) → TableIsBrief code bound table
+    → (call : Call) (s : State) (turns : ℕ) → EndsBy code bound (for_turns bound turns) (starts table call s turns)
+
+-- The code of functions is brief, where none is longer than the bound.
+abbrev pub ProgramsAreBrief : Type 0
+ProgramsAreBrief =
+    (union : Union) (names : Names) (numbers : ℕ → Numbers) (code : List Op) (place : FunctionName → ℕ) (bound : ℕ)
+    → IsLinked union names numbers code place
+    → ((name : FunctionName) (entry : FunctionEntry) → callee union name ≡ Defined entry
+    → length (function_code (numbers entry.owner) (surroundings union entry.owner entry.tags) (place name) entry.definition) ≤ bound)
+    → TableIsBrief code bound (table_of union place)
