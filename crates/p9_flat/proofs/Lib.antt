@@ -11,3 +11,8 @@ pub mod Stmts
 pub mod Whole
 pub mod Keeping
 pub mod Programs
+pub mod Brief
+pub mod BriefExprs
+pub mod BriefStmts
+pub mod BriefLoops
+pub mod Ends

@@ -5,3 +5,4 @@ pub mod Flat
 pub mod Laws
 pub mod Machine
 pub mod Program
+pub mod Ending

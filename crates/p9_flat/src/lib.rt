@@ -6,5 +6,8 @@
 mod laws;
 mod op;
 
-pub use laws::{code_is_right, machine_is_right, programs_have_tables, start_is_right};
+pub use laws::{
+    code_is_right, machine_ends, machine_is_right, programs_are_brief, programs_have_tables,
+    start_ends, start_is_right,
+};
 pub use op::{Op, Operation, Scalar};
