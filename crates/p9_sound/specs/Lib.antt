@@ -5,3 +5,4 @@ pub mod Expressions
 pub mod Automatics
 pub mod Statements
 pub mod Items
+pub mod Functions

@@ -5,6 +5,7 @@ ghost use Rattle.p9_sound.specs.Constants.{TypedConstantsAreIntegers};
 ghost use Rattle.p9_sound.specs.Automatics.{AutomaticsAreNumbered};
 ghost use Rattle.p9_sound.specs.Statements.{NumberedBlocksAreKnown, TypedStatementsAreSound};
 ghost use Rattle.p9_sound.specs.Items.{CodeItemsAreSound};
+ghost use Rattle.p9_sound.specs.Functions.{FunctionsAreNumbered};
 ghost use Rattle.p9_sound.specs.Expressions.{TypedExpressionsAreSound};
 
 /// Behind a node that is typed, the nodes before it have the types and meanings that they had, but for
@@ -63,4 +64,11 @@ pub fn typed_statements_are_sound()
 #[tactic(auto, using(crate::proofs::Items::code_items_are_sound))]
 pub fn code_items_are_sound()
     ensures { CodeItemsAreSound }
+{}
+
+/// In a file that is typed, the automatics of each function's block are numbered behind the parameters that
+/// the function's type has.
+#[tactic(auto, using(crate::proofs::Functions::functions_are_numbered))]
+pub fn functions_are_numbered()
+    ensures { FunctionsAreNumbered }
 {}
