@@ -1,5 +1,5 @@
 -- A function's block counts its automatics from the number of parameters that the function's type has.
-use Rattle.std.proofs.Common.{◌≡◌, ◌≤◌, ◌<◌, ℕ, zero, suc, ◌+◌, ◌-◌, Bool, true, false, if◌then◌else◌, List, [], ◌∷◌, ◌++◌, length, slice_get, slice_set, reverse, unwrap_or, Option, Some, None, Result, Ok, Err, refl, sym, ap, subst, ◌∙◌, arith}
+use Rattle.std.proofs.Common.{◌≡◌, ◌≤◌, ◌<◌, ℕ, suc, ◌+◌, Bool, true, false, if◌then◌else◌, List, [], ◌∷◌, ◌++◌, length, slice_get, slice_set, reverse, unwrap_or, Option, Some, None, Ok, refl, sym, ap, subst, ◌∙◌, arith}
 use Rattle.std.specs.List.{list_all}
 use Rattle.std.proofs.lemmas.List.{length-set}
 use Rattle.std.proofs.lemmas.Grind.{reverse_onto}
@@ -8,20 +8,20 @@ use Rattle.p9_lang.specs.declared.tree.Spec.{Spec}
 use Rattle.p9_lang.specs.declared.tree.Kind.TheVariants as kind
 use Rattle.p9_lang.specs.Trees.{node, none, more, Syntax, SyntaxRow, nodes_of, nodes_of_row}
 use Rattle.p9_lang.specs.Types.{TypeTree, Void, Function, Meant, Nothing, Tags}
-use Rattle.p9_lang.specs.Rules.{Rule, Broken, and_then}
+use Rattle.p9_lang.specs.Rules.{and_then}
 use Rattle.p9_lang.specs.Scopes.{Known, known_first, with_node, next_node, innermost, in_level, close_level, close_block}
 use Rattle.p9_lang.specs.Declarators.{LengthBy, ByNothing, Step, Shape, Names, Keeps, Points, Sized, Unsized, Takes, NameNode, name_of, naming_rules, closed, closed_from, shaped, broken_at, makes_no_type}
 use Rattle.p9_lang.specs.Parts.{Context, file_context, Part, Value, Declarator, Object, Members, Enumerator, Parameter, NamedType, Braced, Filled, CaseLabel, Statement, DefaultLabel, Frame, is_declarator, kind_at, object_type}
 use Rattle.p9_lang.specs.Symbols.{kind_of_node, name_label}
 use Rattle.p9_lang.specs.Modules.{Label, Typed, TypedRow, label_of, typed, typed_row}
 use Rattle.p9_lang.specs.Opening.{opened, context}
-use Rattle.p9_lang.specs.Declaring.{broken_rules, behind, last_node, named_with, declare_object, declare_as, initialiser_role, function_declaring, open_body, with_body_open, parameter_count}
-use Rattle.p9_lang.specs.Typing.{judged, judge, judge_parts, judge_items, role_rules}
-use Rattle.p9_lang.specs.Files.{Typing, typing_of, names_with_bodies}
+use Rattle.p9_lang.specs.Declaring.{behind, last_node, named_with, declare_object, declare_as, initialiser_role, function_declaring, open_body, with_body_open, parameter_count}
+use Rattle.p9_lang.specs.Typing.{judge, judge_parts, judge_items, role_rules}
+use Rattle.p9_lang.specs.Files.{typing_of, names_with_bodies}
 use Rattle.p9_lang.proofs.Counting.{then_of, unless_of}
-use Rattle.p9_cmean.specs.Declarations.{Definition, defined_by, definition_in, definition_of}
+use Rattle.p9_cmean.specs.Declarations.{Definition, defined_by, definition_in}
 use Rattle.p9_cmean.specs.Union.{parameter_types}
-use Rattle.p9_sound.specs.Automatics.{IsStatement, AreStatements, automatics_within, numbers, AreNumbered}
+use Rattle.p9_sound.specs.Automatics.{AreStatements, automatics_within, numbers, AreNumbered}
 use Rattle.p9_sound.specs.Labels.{AreKnown}
 use Rattle.p9_sound.specs.Functions.{Either, IsBody, HasBody, IsOrderly, AreOrderly, IsNumbered, FunctionIsNumbered, FunctionsAreNumberedIn, FunctionsAreNumbered}
 use Rattle.p9_sound.proofs.Numbering.{get_before, length_last}

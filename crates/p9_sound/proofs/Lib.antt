@@ -13,3 +13,4 @@ pub mod Automatics
 pub mod Statements
 pub mod Items
 pub mod Functions
+pub mod Sources

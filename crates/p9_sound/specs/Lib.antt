@@ -6,3 +6,4 @@ pub mod Automatics
 pub mod Statements
 pub mod Items
 pub mod Functions
+pub mod Sources

@@ -6,6 +6,7 @@ ghost use Rattle.p9_sound.specs.Automatics.{AutomaticsAreNumbered};
 ghost use Rattle.p9_sound.specs.Statements.{NumberedBlocksAreKnown, TypedStatementsAreSound};
 ghost use Rattle.p9_sound.specs.Items.{CodeItemsAreSound};
 ghost use Rattle.p9_sound.specs.Functions.{FunctionsAreNumbered};
+ghost use Rattle.p9_sound.specs.Sources.{TypedItemsAreSound};
 ghost use Rattle.p9_sound.specs.Expressions.{TypedExpressionsAreSound};
 
 /// Behind a node that is typed, the nodes before it have the types and meanings that they had, but for
@@ -71,4 +72,11 @@ pub fn code_items_are_sound()
 #[tactic(auto, using(crate::proofs::Functions::functions_are_numbered))]
 pub fn functions_are_numbered()
     ensures { FunctionsAreNumbered }
+{}
+
+/// The functions of a typed module are as the law of trees asks, where blocks stand behind declarators and
+/// the expressions are plain.
+#[tactic(auto, using(crate::proofs::Sources::typed_items_are_sound))]
+pub fn typed_items_are_sound()
+    ensures { TypedItemsAreSound }
 {}
