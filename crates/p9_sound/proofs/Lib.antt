@@ -12,3 +12,5 @@ pub mod NamesOf
 pub mod Automatics
 pub mod Statements
 pub mod Items
+pub mod Functions
+pub mod Sources

@@ -1,5 +1,4 @@
 -- The functions of a module are among its items.
-use Rattle.std.specs.Prelude.{List}
 use Rattle.p9_lang.specs.declared.tree.Kind.TheVariants as kind
 use Rattle.p9_lang.specs.Trees.{node, none, more}
 use Rattle.p9_lang.specs.Modules.{Typed, TypedRow, Source}

@@ -5,3 +5,5 @@ pub mod Expressions
 pub mod Automatics
 pub mod Statements
 pub mod Items
+pub mod Functions
+pub mod Sources
