@@ -7,3 +7,4 @@ pub mod Statements
 pub mod Items
 pub mod Functions
 pub mod Sources
+pub mod Made

@@ -7,6 +7,7 @@ ghost use Rattle.p9_sound.specs.Statements.{NumberedBlocksAreKnown, TypedStateme
 ghost use Rattle.p9_sound.specs.Items.{CodeItemsAreSound};
 ghost use Rattle.p9_sound.specs.Functions.{FunctionsAreNumbered};
 ghost use Rattle.p9_sound.specs.Sources.{TypedItemsAreSound};
+ghost use Rattle.p9_sound.specs.Made.{MadeTreesArePlain};
 ghost use Rattle.p9_sound.specs.Expressions.{TypedExpressionsAreSound};
 
 /// Behind a node that is typed, the nodes before it have the types and meanings that they had, but for
@@ -79,4 +80,11 @@ pub fn functions_are_numbered()
 #[tactic(auto, using(crate::proofs::Sources::typed_items_are_sound))]
 pub fn typed_items_are_sound()
     ensures { TypedItemsAreSound }
+{}
+
+/// The expressions are plain where the tree is one of the grammar, names have symbols, names of enumeration
+/// constants have integer types, and what subtracted pointers point to has a size within the limit.
+#[tactic(auto, using(crate::proofs::Made::made_trees_are_plain))]
+pub fn made_trees_are_plain()
+    ensures { MadeTreesArePlain }
 {}
