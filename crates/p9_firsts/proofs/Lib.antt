@@ -1,0 +1,5 @@
+pub mod Sizes
+pub mod Parts
+pub mod Fixing
+pub mod Entries
+pub mod Symbols

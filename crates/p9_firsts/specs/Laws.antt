@@ -1,0 +1,28 @@
+-- The laws of first contents.
+use Rattle.std.specs.Prelude.{◌≡◌, true, false}
+use Rattle.p9_lang.specs.Types.{TypeTree}
+use Rattle.p9_lang.specs.Layout.{size_of, is_complete}
+use Rattle.p9_lang.specs.TagRules.{NoneContainsItself}
+use Rattle.p9_lang.specs.Initialisers.{first_writes}
+use Rattle.p9_lang.specs.Modules.{Typed, Source}
+use Rattle.p9_lang.specs.Symbols.{symbols}
+use Rattle.p9_tree.specs.Means.{data_symbols}
+use Rattle.p9_lower.specs.Names.{Setting}
+use Rattle.p9_lower.specs.Modules.{setting_of}
+use Rattle.p9_lower.specs.Premises.{first_is_sound, firsts_are_sound}
+use Rattle.p9_firsts.specs.Whole.{BodiesAreFull, texts_have_bytes, row_has_bytes, names_are_found, row_is_found, RowIsWhole, DeclarationsAgree}
+
+-- What an initialiser writes first into an object of a complete type lies inside it, and is of the kind
+-- that its type holds.
+abbrev pub WritesAreSound : Type 0
+WritesAreSound =
+    (setting : Setting) (type : TypeTree) (value : Typed) → NoneContainsItself setting.tags → BodiesAreFull setting.tags
+    → is_complete setting.tags type ≡ true → texts_have_bytes value ≡ true → names_are_found setting value ≡ true
+    → first_is_sound setting (size_of setting.tags type) (first_writes setting.tags type value) ≡ true
+
+-- The first contents of a module's objects are so, where the objects are whole.
+abbrev pub ContentsAreSound : Type 0
+ContentsAreSound =
+    (m : Source) → NoneContainsItself m.tags → BodiesAreFull m.tags → RowIsWhole m.tags false m.items → DeclarationsAgree m
+    → row_has_bytes m.items ≡ true → row_is_found (setting_of m) m.items ≡ true
+    → firsts_are_sound (setting_of m) (data_symbols (symbols m)) ≡ true

@@ -1,0 +1,7 @@
+//! Laws that the first contents of a typed module's objects are as the law of typed trees asks. Each law is
+//! the contract of a function that does nothing.
+#![tactic(auto)]
+
+mod laws;
+
+pub use laws::{contents_are_sound, writes_are_sound};
