@@ -3,3 +3,5 @@ pub mod Parts
 pub mod Fixing
 pub mod Entries
 pub mod Symbols
+pub mod Full
+pub mod Files

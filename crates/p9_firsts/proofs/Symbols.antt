@@ -2,6 +2,8 @@
 use Rattle.std.proofs.Common.{◌≡◌, ◌≤◌, ℕ, zero, suc, ◌+◌, ◌*◌, ◌&&◌, ◌||◌, not, Bool, true, false, if◌then◌else◌, List, [], ◌∷◌, ◌++◌, map, length, length-append, Option, Some, None, Result, Ok, Err, refl, sym, ap, subst, ◌∙◌, arith}
 use Rattle.std.specs.List.{filter}
 use Rattle.std.specs.Prelude.{sum}
+use Rattle.std.proofs.lemmas.List.Sums.{sum-map}
+use Rattle.std.proofs.lemmas.List.Concat.{length-flat_map}
 use Rattle.p9_lang.specs.declared.tree.Kind.{Kind}
 use Rattle.p9_lang.specs.declared.tree.Kind.TheVariants as kind
 use Rattle.p9_lang.specs.Trees.{node, none, more}
@@ -27,8 +29,7 @@ use Rattle.p9_firsts.proofs.Entries.{both, at_most, bytes_and_zero, zero_is_ther
 
 -- the length of a text's bytes
 text_length : (texts : List (List ℕ)) → length (text_bytes texts) ≡ sum (map length texts)
-text_length [] = refl
-text_length (t ∷ ts) = length-append t (text_bytes ts) ∙ ap (λ n. length t + n) (text_length ts)
+text_length texts = length-flat_map (λ text. text) texts ∙ sym (sum-map length texts)
 
 char_array : (tags : Tags) (n m : ℕ) → m ≡ suc n → size_of tags (Array Char m) ≡ suc n
 char_array tags n m e = ap (λ k. size_of tags (Array Char k)) e ∙ omega arith
@@ -137,11 +138,12 @@ module _ (m : Source) (ends : NoneContainsItself m.tags) (full : BodiesAreFull m
 
   body_row : (item : Typed) (ts : TypedRow) → AreDeclaredWhole (declared_body item ts)
   body_row item none = tt
-  body_row item (more t ts) = by (is_declarator (kind_of_node t))
+  body_row item (more t ts) = by (is_declarator (kind_of_node t)) (body_row item ts)
     where
-      by : (is_one : Bool) → AreDeclaredWhole (if is_one then declares (Body item) (name_label t) else declared_body item ts)
-      by true = named_whole (Body item) (name_label t) (λ l k value w. cc)
-      by false = body_row item ts
+      by : (is_one : Bool) → AreDeclaredWhole (declared_body item ts)
+          → AreDeclaredWhole (if is_one then declares (Body item) (name_label t) else declared_body item ts)
+      by true others = named_whole (Body item) (name_label t) (λ l k value w. cc)
+      by false others = others
 
   item_whole : (item : Typed) → ObjectsAreWhole m.tags item → texts_have_bytes item ≡ true → names_are_found (setting_of m) item ≡ true
       → AreDeclaredWhole (declarations_in item)
@@ -195,7 +197,7 @@ module _ (m : Source) (ends : NoneContainsItself m.tags) (full : BodiesAreFull m
       by : (b : Bool) → (if b then Used else DeclaredOnly) ≡ Data first → first_is_sound (setting_of m) (size_of m.tags type) first ≡ true
       by true k = cc
       by false k = cc
-  kind_sound is_used type (d ∷ ds) a w = way_sound is_used type d.name d.type d.way ds a.0 w.0 (kind_sound is_used type ds a.1 w.1)
+  kind_sound is_used type (d ∷ ds) a w first e = way_sound is_used type d.name d.type d.way ds a.0 w.0 (kind_sound is_used type ds a.1 w.1) first e
 
   names_sound : DeclarationsAgree m → AreDeclaredWhole (declarations m.items) → (xs : List (List ℕ)) → AreSound (map (symbol_of m) xs)
   names_sound agree w [] = tt

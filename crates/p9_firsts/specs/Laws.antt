@@ -1,10 +1,13 @@
 -- The laws of first contents.
-use Rattle.std.specs.Prelude.{◌≡◌, true, false}
+use Rattle.std.specs.Prelude.{◌≡◌, ℕ, true, false, List, Ok}
+use Rattle.p9_lang.specs.declared.module.Module.{Module}
+use Rattle.p9_lang.specs.Trees.{SyntaxRow, row_of}
 use Rattle.p9_lang.specs.Types.{TypeTree}
 use Rattle.p9_lang.specs.Layout.{size_of, is_complete}
 use Rattle.p9_lang.specs.TagRules.{NoneContainsItself}
 use Rattle.p9_lang.specs.Initialisers.{first_writes}
-use Rattle.p9_lang.specs.Modules.{Typed, Source}
+use Rattle.p9_lang.specs.Files.{Typing, typed_file, IsTyped}
+use Rattle.p9_lang.specs.Modules.{Typed, Source, source_of}
 use Rattle.p9_lang.specs.Symbols.{symbols}
 use Rattle.p9_tree.specs.Means.{data_symbols}
 use Rattle.p9_lower.specs.Names.{Setting}
@@ -26,3 +29,16 @@ ContentsAreSound =
     (m : Source) → NoneContainsItself m.tags → BodiesAreFull m.tags → RowIsWhole m.tags false m.items → DeclarationsAgree m
     → row_has_bytes m.items ≡ true → row_is_found (setting_of m) m.items ≡ true
     → firsts_are_sound (setting_of m) (data_symbols (symbols m)) ≡ true
+
+-- A structure of a file that is typed has members where it has a body.
+abbrev pub BodiesHaveMembers : Type 0
+BodiesHaveMembers =
+    (items : SyntaxRow) (marks : List (List ℕ)) (t : Typing) → typed_file items marks ≡ Ok t → BodiesAreFull t.tags
+
+-- So the first contents of a typed module are sound, where its objects are whole, its texts have bytes and
+-- its names have symbols.
+abbrev pub FirstsAreSound : Type 0
+FirstsAreSound =
+    (m : Module) → IsTyped m → RowIsWhole (source_of m).tags false (source_of m).items → DeclarationsAgree (source_of m)
+    → row_has_bytes (row_of m.tree.items) ≡ true → row_is_found (setting_of (source_of m)) (source_of m).items ≡ true
+    → firsts_are_sound (setting_of (source_of m)) (data_symbols (symbols (source_of m))) ≡ true

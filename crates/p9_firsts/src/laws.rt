@@ -1,5 +1,5 @@
 // Laws of the definitions in `specs/`. Each function does nothing; its contract is the law.
-ghost use Rattle.p9_firsts.specs.Laws.{ContentsAreSound, WritesAreSound};
+ghost use Rattle.p9_firsts.specs.Laws.{BodiesHaveMembers, ContentsAreSound, FirstsAreSound, WritesAreSound};
 
 /// What an initialiser writes first into an object of a complete type lies inside it: a number for an integer
 /// or a null pointer, an address with a symbol for a pointer, or the bytes of a text.
@@ -12,4 +12,18 @@ pub fn writes_are_sound()
 #[tactic(auto, using(crate::proofs::Symbols::contents_are_sound))]
 pub fn contents_are_sound()
     ensures { ContentsAreSound }
+{}
+
+/// A structure of a file that is typed has at least one member where it has a body, so that each complete type
+/// has at least one byte.
+#[tactic(auto, using(crate::proofs::Full::bodies_have_members))]
+pub fn bodies_have_members()
+    ensures { BodiesHaveMembers }
+{}
+
+/// The first contents of a typed module are as the law of typed trees asks, where its objects are whole, its
+/// texts have bytes and its names have symbols.
+#[tactic(auto, using(crate::proofs::Files::firsts_are_sound))]
+pub fn firsts_are_sound()
+    ensures { FirstsAreSound }
 {}
