@@ -1,5 +1,5 @@
 -- A structure of a file that is typed has members where it has a body.
-use Rattle.std.proofs.Common.{◌≡◌, ℕ, zero, suc, ◌==◌, Bool, true, false, not, if◌then◌else◌, List, [], ◌∷◌, ◌++◌, map, length, slice_get, slice_set, Option, Some, None, Result, Ok, Err, refl, sym, ap, subst, ◌∙◌}
+use Rattle.std.proofs.Common.{◌≡◌, ℕ, zero, suc, ◌+◌, ◌==◌, Bool, true, false, not, if◌then◌else◌, List, [], ◌∷◌, ◌++◌, map, length, slice_get, slice_set, Option, Some, None, Result, Ok, Err, refl, sym, ap, subst, ◌∙◌}
 use Rattle.p9_lang.specs.declared.tree.Kind.{Kind}
 use Rattle.p9_lang.specs.declared.tree.Kind.TheVariants as kind
 use Rattle.p9_lang.specs.declared.tree.EntryBy.{EntryBy}
@@ -30,10 +30,10 @@ nothing_there (suc i) tag e = cc
 full_first : BodiesAreFull []
 full_first i tag e k = nothing_there i tag e
 
-full_append : (tags more : Tags) → BodiesAreFull tags → BodiesAreFull more → BodiesAreFull (tags ++ more)
-full_append [] more h g = g
-full_append (t ∷ ts) more h g zero tag e k = h zero tag e k
-full_append (t ∷ ts) more h g (suc i) tag e k = full_append ts more (λ j. h (suc j)) g i tag e k
+full_append : (tags new : Tags) → BodiesAreFull tags → BodiesAreFull new → BodiesAreFull (tags ++ new)
+full_append [] new h g i tag e k = g i tag e k
+full_append (t ∷ ts) new h g zero tag e k = h zero tag e k
+full_append (t ∷ ts) new h g (suc i) tag e k = full_append ts new (λ j. h (suc j)) g i tag e k
 
 bodiless_full : (new : TagTree) → new.members ≡ None → BodiesAreFull (new ∷ [])
 bodiless_full new h zero tag e k =
@@ -282,22 +282,22 @@ given_tags base steps last count x s q e =
     let z : record s { types = made.0.1; names = retyped x made.0.0 (innermost s.names) ∷ around s.names } ≡ q = cc in
     ap (λ y. y.tags) (sym z)
 
-same_tags : (s q : Known) → Ok s ≡ Ok q → q.tags ≡ s.tags
-same_tags s q e = let z : s ≡ q = cc in ap (λ x. x.tags) (sym z)
+same_tags : (s q : Known) (m : Result Known Broken) → m ≡ Ok s → m ≡ Ok q → q.tags ≡ s.tags
+same_tags s q m d e = let z : s ≡ q = cc in ap (λ x. x.tags) (sym z)
 
 length_tags : (base : TypeTree) (object : Option Part) (part : Part) (s q : Known) → with_length_given base object part s ≡ Ok q → q.tags ≡ s.tags
 length_tags base (Some (Object (Array element zero) steps last role)) part s q e =
     given_tags base steps last (given_length part) (name_in (name_of steps)) s q e
-length_tags base _ part s q e = same_tags s q e
+length_tags base _ part s q e = same_tags s q (Ok s) refl e
 
 initialised_full : (k : Kind) (f : Frame) (before : List Part) (part : Part) (s : Known) → PartIsFull part → GivesFull s (initialised k f before part s)
 initialised_full (kind.Declaration spec inits) f before part s l r e =
     let x = then_of (with_length_given f.base (last_object before) part s) _ r e in
     let t = length_tags f.base (last_object before) part s x.0 x.1 in
     unless_full _ s x.0 part (λ h. subst (λ tags. BodiesAreFull tags) (sym t) h) l r x.2
-initialised_full (kind.Entry entry_by equals) f before part s l =
-    if_full s (is_index_next entry_by before) _ _ (ok_full s s part (λ h. h) l) (unless_full _ s s part (λ h. h) l)
-initialised_full k f before part s l = ok_full s s part (λ h. h) l
+initialised_full (kind.Entry entry_by equals) f before part s l r e =
+    if_full s (is_index_next entry_by before) _ _ (ok_full s s part (λ h. h) l) (unless_full _ s s part (λ h. h) l) r e
+initialised_full k f before part s l r e = ok_full s s part (λ h. h) l r e
 
 first_empty : {A : Type 0} (xs ys : List A) → xs ++ ys ≡ [] → xs ≡ []
 first_empty [] ys e = refl
@@ -337,7 +337,7 @@ behind_full k f before Statement rest s l = ok_full s s Statement (λ h. h) tt
 
 -- THE RECURSION
 
-with_rules_of : (number : ℕ) (rules : List Rule) (m : Judged) (r : Part × Known) → with_rules number rules m ≡ Ok r → m ≡ Ok r
+pub with_rules_of : (number : ℕ) (rules : List Rule) (m : Judged) (r : Part × Known) → with_rules number rules m ≡ Ok r → m ≡ Ok r
 with_rules_of number rules (Ok x) r e = ap (λ y. Ok y) (unless_of (broken_rules number rules) x r e)
 with_rules_of number rules (Err b) r e = by (b.node == number) e
   where
