@@ -1,0 +1,9 @@
+pub mod Numbering
+pub mod Staying
+pub mod Closing
+pub mod Labels
+pub mod Ending
+pub mod Operands
+pub mod Nodes
+pub mod Constants
+pub mod Expressions
