@@ -9,6 +9,7 @@ use Rattle.p9_firsts.specs.Whole.{text_has_bytes, texts_have_bytes, row_has_byte
 use Rattle.p9_firsts.specs.Laws.{FirstsAreSound}
 use Rattle.p9_firsts.proofs.Symbols.{contents_are_sound}
 use Rattle.p9_firsts.proofs.Full.{bodies_have_members}
+use Rattle.p9_firsts.proofs.Texts.{texts_are_typed}
 
 -- labels change no texts
 mutual
@@ -24,5 +25,6 @@ mutual
 pub firsts_are_sound : FirstsAreSound
 firsts_are_sound m typing whole agree b g =
     contents_are_sound (source_of m) (structures_end (row_of m.tree.items) m.tree.marks (typing_in m) typing)
-    (bodies_have_members (row_of m.tree.items) m.tree.marks (typing_in m) typing) whole agree
+    (bodies_have_members (row_of m.tree.items) m.tree.marks (typing_in m) typing)
+    (texts_are_typed (row_of m.tree.items) m.tree.marks (typing_in m) typing) whole agree
     (typed_row_bytes (types_of m.types) (all_meant m.binds) 0 (row_of m.tree.items) ∙ b) g

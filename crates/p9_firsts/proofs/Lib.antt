@@ -4,4 +4,5 @@ pub mod Fixing
 pub mod Entries
 pub mod Symbols
 pub mod Full
+pub mod Texts
 pub mod Files

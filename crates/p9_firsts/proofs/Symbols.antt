@@ -22,7 +22,7 @@ use Rattle.p9_lang.specs.Symbols.{Declaration, Way, Only, Tentative, Initial, Bo
 use Rattle.p9_tree.specs.Means.{first_of, DataSymbol, data_symbols}
 use Rattle.p9_lower.specs.Modules.{setting_of}
 use Rattle.p9_lower.specs.Premises.{are_bytes, is_empty, lies_inside, first_is_sound, firsts_are_sound}
-use Rattle.p9_firsts.specs.Whole.{BodiesAreFull, texts_have_bytes, row_has_bytes, names_are_found, row_is_found, node_is_found, text_has_bytes, DeclaredIsWhole, ObjectsAreWhole, RowIsWhole, FilledAs, DeclarationsAgree}
+use Rattle.p9_firsts.specs.Whole.{BodiesAreFull, texts_have_bytes, row_has_bytes, names_are_found, row_is_found, node_is_found, text_has_bytes, TextIsWhole, TextsAreWhole, RowTextsAreWhole, DeclaredIsWhole, ObjectsAreWhole, RowIsWhole, FilledAs, DeclarationsAgree}
 use Rattle.p9_firsts.specs.Laws.{ContentsAreSound}
 use Rattle.p9_firsts.proofs.Fixing.{left_true, right_true}
 use Rattle.p9_firsts.proofs.Entries.{both, at_most, bytes_and_zero, zero_is_there, first_writes_are_sound}
@@ -147,7 +147,7 @@ module _ (m : Source) (ends : NoneContainsItself m.tags) (full : BodiesAreFull m
 
   item_whole : (item : Typed) → ObjectsAreWhole m.tags item → texts_have_bytes item ≡ true → names_are_found (setting_of m) item ≡ true
       → AreDeclaredWhole (declarations_in item)
-  item_whole (node (kind.Declaration spec inits) label parts) h b g = declared_row (is_extern (storage_of spec.words)) parts h.1 b g
+  item_whole (node (kind.Declaration spec inits) label parts) h b g = declared_row (is_extern (storage_of spec.words)) parts h b g
   item_whole (node (kind.Function spec) label parts) h b g = body_row (node (kind.Function spec) label parts) parts
   item_whole (node _ label parts) h b g = tt
 
@@ -270,9 +270,9 @@ module _ (m : Source) (ends : NoneContainsItself m.tags) (full : BodiesAreFull m
   text_sound texts number token type (EnumValue value) e b = tt
   text_sound texts number token type (TypeName other) e b = tt
 
-  node_sound : (k : Kind) (label : Label) (parts : TypedRow) → ObjectsAreWhole m.tags (node k label parts) → text_has_bytes k ≡ true → ObjectsAreSound (text_at k label)
-  node_sound (kind.Text texts) label parts h b = text_sound texts label.number label.token label.type label.means h.0 b
-  node_sound _ label parts h b = tt
+  node_sound : (k : Kind) (label : Label) → TextIsWhole k label.type → text_has_bytes k ≡ true → ObjectsAreSound (text_at k label)
+  node_sound (kind.Text texts) label w b = text_sound texts label.number label.token label.type label.means w b
+  node_sound _ label w b = tt
 
   given_sound : (type : TypeTree) (value : Option Typed) → ((v : Typed) → value ≡ Some v → IsWhole type v) → (first : Result (List Write) BrokenItem)
       → writes_of m.tags type value ≡ Some first → first_is_sound (setting_of m) (size_of m.tags type) first ≡ true
@@ -306,23 +306,23 @@ module _ (m : Source) (ends : NoneContainsItself m.tags) (full : BodiesAreFull m
       by false e = tt
 
   mutual
-    objects_sound : (t : Typed) → ObjectsAreWhole m.tags t → texts_have_bytes t ≡ true → names_are_found (setting_of m) t ≡ true
+    objects_sound : (t : Typed) → TextsAreWhole t → ObjectsAreWhole m.tags t → texts_have_bytes t ≡ true → names_are_found (setting_of m) t ≡ true
         → ObjectsAreSound (local_objects m.tags t)
-    objects_sound (node k label parts) h b g =
+    objects_sound (node k label parts) w h b g =
         objects_append (local_objects_in m.tags (is_declaration k) parts) (text_at k label)
-        (row_sound (is_declaration k) parts h.1 (right_true (text_has_bytes k) (row_has_bytes parts) b)
+        (row_sound (is_declaration k) parts w.1 h (right_true (text_has_bytes k) (row_has_bytes parts) b)
         (right_true (node_is_found (setting_of m) k label.means) (row_is_found (setting_of m) parts) g))
-        (node_sound k label parts h (left_true (text_has_bytes k) (row_has_bytes parts) b))
+        (node_sound k label w.0 (left_true (text_has_bytes k) (row_has_bytes parts) b))
 
-    row_sound : (are_declared : Bool) (ts : TypedRow) → RowIsWhole m.tags are_declared ts → row_has_bytes ts ≡ true → row_is_found (setting_of m) ts ≡ true
+    row_sound : (are_declared : Bool) (ts : TypedRow) → RowTextsAreWhole ts → RowIsWhole m.tags are_declared ts → row_has_bytes ts ≡ true → row_is_found (setting_of m) ts ≡ true
         → ObjectsAreSound (local_objects_in m.tags are_declared ts)
-    row_sound are_declared none h b g = tt
-    row_sound are_declared (more t ts) h b g =
+    row_sound are_declared none w h b g = tt
+    row_sound are_declared (more t ts) w h b g =
         objects_append _ _ (one_sound are_declared t ts h (right_true (texts_have_bytes t) (row_has_bytes ts) b)
         (right_true (names_are_found (setting_of m) t) (row_is_found (setting_of m) ts) g))
         (objects_append (local_objects m.tags t) (local_objects_in m.tags are_declared ts)
-        (objects_sound t h.1.0 (left_true (texts_have_bytes t) (row_has_bytes ts) b) (left_true (names_are_found (setting_of m) t) (row_is_found (setting_of m) ts) g))
-        (row_sound are_declared ts h.1.1 (right_true (texts_have_bytes t) (row_has_bytes ts) b)
+        (objects_sound t w.0 h.1.0 (left_true (texts_have_bytes t) (row_has_bytes ts) b) (left_true (names_are_found (setting_of m) t) (row_is_found (setting_of m) ts) g))
+        (row_sound are_declared ts w.1 h.1.1 (right_true (texts_have_bytes t) (row_has_bytes ts) b)
         (right_true (names_are_found (setting_of m) t) (row_is_found (setting_of m) ts) g)))
 
   -- ALL SYMBOLS
@@ -341,9 +341,9 @@ module _ (m : Source) (ends : NoneContainsItself m.tags) (full : BodiesAreFull m
       by Common e g = g
 
 pub contents_are_sound : ContentsAreSound
-contents_are_sound m ends full whole agree b g =
+contents_are_sound m ends full texts whole agree b g =
     firsts_sound m ends full (symbols m)
     (sound_append m ends full (filter is_symbol (map (symbol_of m) (symbol_names m))) (map local_symbol (local_objects_in m.tags false m.items))
     (sound_filter m ends full is_symbol (map (symbol_of m) (symbol_names m))
     (names_sound m ends full agree (items_whole m ends full false m.items whole b g) (symbol_names m)))
-    (locals_sound m ends full (local_objects_in m.tags false m.items) (row_sound m ends full false m.items whole b g)))
+    (locals_sound m ends full (local_objects_in m.tags false m.items) (row_sound m ends full false m.items texts whole b g)))

@@ -7,13 +7,13 @@ use Rattle.p9_lang.specs.Layout.{size_of, is_complete}
 use Rattle.p9_lang.specs.TagRules.{NoneContainsItself}
 use Rattle.p9_lang.specs.Initialisers.{first_writes}
 use Rattle.p9_lang.specs.Files.{Typing, typed_file, IsTyped}
-use Rattle.p9_lang.specs.Modules.{Typed, Source, source_of}
+use Rattle.p9_lang.specs.Modules.{Typed, Source, typed_row, source_of}
 use Rattle.p9_lang.specs.Symbols.{symbols}
 use Rattle.p9_tree.specs.Means.{data_symbols}
 use Rattle.p9_lower.specs.Names.{Setting}
 use Rattle.p9_lower.specs.Modules.{setting_of}
 use Rattle.p9_lower.specs.Premises.{first_is_sound, firsts_are_sound}
-use Rattle.p9_firsts.specs.Whole.{BodiesAreFull, texts_have_bytes, row_has_bytes, names_are_found, row_is_found, RowIsWhole, DeclarationsAgree}
+use Rattle.p9_firsts.specs.Whole.{BodiesAreFull, texts_have_bytes, row_has_bytes, names_are_found, row_is_found, RowTextsAreWhole, RowIsWhole, DeclarationsAgree}
 
 -- What an initialiser writes first into an object of a complete type lies inside it, and is of the kind
 -- that its type holds.
@@ -26,7 +26,7 @@ WritesAreSound =
 -- The first contents of a module's objects are so, where the objects are whole.
 abbrev pub ContentsAreSound : Type 0
 ContentsAreSound =
-    (m : Source) → NoneContainsItself m.tags → BodiesAreFull m.tags → RowIsWhole m.tags false m.items → DeclarationsAgree m
+    (m : Source) → NoneContainsItself m.tags → BodiesAreFull m.tags → RowTextsAreWhole m.items → RowIsWhole m.tags false m.items → DeclarationsAgree m
     → row_has_bytes m.items ≡ true → row_is_found (setting_of m) m.items ≡ true
     → firsts_are_sound (setting_of m) (data_symbols (symbols m)) ≡ true
 
@@ -34,6 +34,12 @@ ContentsAreSound =
 abbrev pub BodiesHaveMembers : Type 0
 BodiesHaveMembers =
     (items : SyntaxRow) (marks : List (List ℕ)) (t : Typing) → typed_file items marks ≡ Ok t → BodiesAreFull t.tags
+
+-- A text of a file that is typed has the type of its bytes in the end.
+abbrev pub TextsAreTyped : Type 0
+TextsAreTyped =
+    (items : SyntaxRow) (marks : List (List ℕ)) (t : Typing) → typed_file items marks ≡ Ok t
+    → RowTextsAreWhole (typed_row t.types t.means 0 items)
 
 -- So the first contents of a typed module are sound, where its objects are whole, its texts have bytes and
 -- its names have symbols.

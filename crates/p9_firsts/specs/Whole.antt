@@ -56,12 +56,21 @@ abbrev mutual
   row_is_found setting none = true
   row_is_found setting (more first others) = names_are_found setting first && row_is_found setting others
 
--- OBJECTS: what is declared with an initialiser has a complete type, and a text's type is that of its
--- bytes
+-- A TEXT's type is that of its bytes and a zero byte
 
 abbrev pub TextIsWhole : Kind → TypeTree → Type 0
 TextIsWhole (kind.Text texts) type = type ≡ text_type texts
 TextIsWhole k type = Unit {0}
+
+abbrev mutual
+  pub TextsAreWhole : Typed → Type 0
+  TextsAreWhole (node k label parts) = TextIsWhole k label.type × RowTextsAreWhole parts
+
+  pub RowTextsAreWhole : TypedRow → Type 0
+  RowTextsAreWhole none = Unit {0}
+  RowTextsAreWhole (more first others) = TextsAreWhole first × RowTextsAreWhole others
+
+-- OBJECTS: what is declared with an initialiser has a complete type
 
 abbrev pub DeclaredIsWhole : Tags → (value : Option Typed) → Option Label → Type 0
 DeclaredIsWhole tags None label = Unit {0}
@@ -70,7 +79,7 @@ DeclaredIsWhole tags (Some value) (Some label) = is_complete tags label.type ≡
 
 abbrev mutual
   pub ObjectsAreWhole : Tags → Typed → Type 0
-  ObjectsAreWhole tags (node k label parts) = TextIsWhole k label.type × RowIsWhole tags (is_declaration k) parts
+  ObjectsAreWhole tags (node k label parts) = RowIsWhole tags (is_declaration k) parts
 
   pub RowIsWhole : Tags → (are_declared : Bool) → TypedRow → Type 0
   RowIsWhole tags are_declared none = Unit {0}

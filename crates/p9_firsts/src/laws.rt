@@ -1,5 +1,5 @@
 // Laws of the definitions in `specs/`. Each function does nothing; its contract is the law.
-ghost use Rattle.p9_firsts.specs.Laws.{BodiesHaveMembers, ContentsAreSound, FirstsAreSound, WritesAreSound};
+ghost use Rattle.p9_firsts.specs.Laws.{BodiesHaveMembers, ContentsAreSound, FirstsAreSound, TextsAreTyped, WritesAreSound};
 
 /// What an initialiser writes first into an object of a complete type lies inside it: a number for an integer
 /// or a null pointer, an address with a symbol for a pointer, or the bytes of a text.
@@ -19,6 +19,12 @@ pub fn contents_are_sound()
 #[tactic(auto, using(crate::proofs::Full::bodies_have_members))]
 pub fn bodies_have_members()
     ensures { BodiesHaveMembers }
+{}
+
+/// A text of a file that is typed has the type of its bytes in the end: an array of as many and one more.
+#[tactic(auto, using(crate::proofs::Texts::texts_are_typed))]
+pub fn texts_are_typed()
+    ensures { TextsAreTyped }
 {}
 
 /// The first contents of a typed module are as the law of typed trees asks, where its objects are whole, its
