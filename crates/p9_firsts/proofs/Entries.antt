@@ -1,23 +1,22 @@
 -- What the entries of an initialiser write lies inside the object and is of the kind that its part holds.
-use Rattle.std.proofs.Common.{◌≡◌, ◌≤◌, ◌<◌, ℕ, zero, suc, ◌+◌, ◌*◌, ◌==◌, ◌&&◌, ◌||◌, not, nat_lt, nat_le, Bool, true, false, if◌then◌else◌, List, [], ◌∷◌, ◌++◌, length, length-append, Option, Some, None, Result, Ok, Err, refl, sym, ap, subst, ◌∙◌, arith}
+use Rattle.std.proofs.Common.{◌≡◌, ◌≤◌, ◌<◌, ℕ, suc, ◌+◌, ◌==◌, ◌&&◌, ◌||◌, not, nat_lt, nat_le, Bool, true, false, if◌then◌else◌, List, [], ◌∷◌, ◌++◌, length, length-append, Option, Some, None, Result, Ok, Err, refl, ap, subst, arith}
 use Rattle.std.proofs.lemmas.Bool.Decides.{nat_tests}
-use Rattle.p9_lang.specs.declared.tree.Kind.{Kind}
 use Rattle.p9_lang.specs.declared.tree.Kind.TheVariants as kind
 use Rattle.p9_lang.specs.Trees.{node, none, more}
 use Rattle.p9_lang.specs.Types.{TypeTree, Pointer, Array}
-use Rattle.p9_lang.specs.Layout.{Extent, layout, size_in, size_of}
+use Rattle.p9_lang.specs.Layout.{layout, size_in, size_of}
 use Rattle.p9_lang.specs.TagRules.{NoneContainsItself}
 use Rattle.p9_lang.specs.Conversions.{is_integer, is_pointer, decayed, conversion}
 use Rattle.p9_lang.specs.Constants.{narrowed, type_at, constant_of, is_null_constant}
 use Rattle.p9_lang.specs.Parts.{EntryOf}
-use Rattle.p9_lang.specs.Entries.{entry_role, entry_position, filled_type}
-use Rattle.p9_lang.specs.Initialisers.{Fixed, Number, Address, NotFixed, fixed_of, InitEntry, Fill, Past, number_at, text_bytes, or_number, single_entry, position_offset, index_parts, fills, entries_of, list_entries, value_entries, initialiser_entries, Content, Word, AddressOf, Bytes, Write, with_zero, converted, content_in, content_of, BrokenItem, written, entry_write, with_write, all_writes}
+use Rattle.p9_lang.specs.Entries.{entry_role, entry_position}
+use Rattle.p9_lang.specs.Initialisers.{Fixed, Number, Address, NotFixed, fixed_of, InitEntry, Fill, Past, number_at, text_bytes, or_number, single_entry, index_parts, fills, entries_of, list_entries, value_entries, initialiser_entries, Content, Word, AddressOf, Bytes, Write, with_zero, converted, content_in, content_of, BrokenItem, written, entry_write, with_write, all_writes}
 use Rattle.p9_lang.specs.Modules.{Label, Typed, TypedRow}
 use Rattle.p9_lang.proofs.Bodies.{HasSize}
 use Rattle.p9_lower.specs.Names.{Setting}
 use Rattle.p9_lower.specs.Modules.{base_symbol}
 use Rattle.p9_lower.specs.Premises.{are_bytes, is_empty, is_found, lies_inside, content_is_sound, writes_are_sound, first_is_sound}
-use Rattle.p9_firsts.specs.Whole.{BodiesAreFull, text_has_bytes, texts_have_bytes, row_has_bytes, node_is_found, names_are_found, row_is_found}
+use Rattle.p9_firsts.specs.Whole.{BodiesAreFull, texts_have_bytes, row_has_bytes, names_are_found, row_is_found}
 use Rattle.p9_firsts.specs.Laws.{WritesAreSound}
 use Rattle.p9_firsts.proofs.Sizes.{size_there, array_laid, array_room}
 use Rattle.p9_firsts.proofs.Parts.{entry_inside}

@@ -1,6 +1,6 @@
 -- The first contents of a module of the program.
-use Rattle.std.proofs.Common.{◌≡◌, ℕ, ◌+◌, ◌&&◌, Bool, true, List, refl, sym, ap, ◌∙◌}
-use Rattle.p9_lang.specs.Trees.{node, none, more, Syntax, SyntaxRow, nodes_of, nodes_of_row, row_of}
+use Rattle.std.proofs.Common.{◌≡◌, ℕ, ◌+◌, ◌&&◌, List, refl, ap, ◌∙◌}
+use Rattle.p9_lang.specs.Trees.{node, none, more, Syntax, SyntaxRow, nodes_of, row_of}
 use Rattle.p9_lang.specs.Types.{TypeTree, Meant, types_of, all_meant}
 use Rattle.p9_lang.specs.Files.{typing_in}
 use Rattle.p9_lang.specs.Modules.{typed, typed_row, source_of}

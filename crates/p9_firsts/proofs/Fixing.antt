@@ -1,12 +1,12 @@
 -- What an expression is counted from before the program runs has a symbol, where its names have.
-use Rattle.std.proofs.Common.{◌≡◌, ℕ, ◌%◌, ◌==◌, ◌||◌, ◌&&◌, not, Bool, true, false, if◌then◌else◌, List, [], ◌∷◌, Result, Ok, Err, refl}
+use Rattle.std.proofs.Common.{◌≡◌, ℕ, ◌%◌, ◌==◌, ◌||◌, ◌&&◌, Bool, true, false, if◌then◌else◌, List, [], ◌∷◌, Result, Ok, Err, refl}
 use Rattle.p9_lang.specs.declared.tree.CBinary.{CBinary}
 use Rattle.p9_lang.specs.declared.tree.CBinary.TheVariants as operator
 use Rattle.p9_lang.specs.declared.tree.CUnary.{CUnary}
 use Rattle.p9_lang.specs.declared.tree.CUnary.TheVariants as unary
 use Rattle.p9_lang.specs.declared.tree.Kind.{Kind}
 use Rattle.p9_lang.specs.declared.tree.Kind.TheVariants as kind
-use Rattle.p9_base.specs.Words.{word_product, word_negation, word_complement, word_difference}
+use Rattle.p9_base.specs.Words.{word_product, word_negation, word_difference}
 use Rattle.p9_lang.specs.Trees.{node, none, more}
 use Rattle.p9_lang.specs.Types.{TypeTree, Tagged, Tags, Meant, Nothing, Outer, Static, Auto, EnumValue, TypeName}
 use Rattle.p9_lang.specs.Members.{Found, At, find_member}
@@ -14,8 +14,8 @@ use Rattle.p9_lang.specs.Members as members
 use Rattle.p9_lang.specs.Conversions.{is_integer, is_pointer, is_array, is_function, decayed, Conversion, Same, Integer, Null, Inner, Ambiguous, No}
 use Rattle.p9_lang.specs.Constants.{truth, narrowed, word_operation, size_constant, enumeration_constant}
 use Rattle.p9_lang.specs.Constants as constants
-use Rattle.p9_lang.specs.Initialisers.{Fixed, Number, Address, NotFixed, moved, moved_by, moved_back, on_numbers, on_number, fixed_result, pointers_unsigned, number_operation, pointed_size, quotient_of, whole_quotient, fixed_sum, fixed_difference, chosen_fixed, fixed_truth, fixed_binary, FixedPart, base_address, found_offset, member_address, target_of, selected_address, with_one, with_two, with_three, address_at, fixed_constant, fixed_unary, fixed_cast, after, scalar_at, value_at, fixed_at, fixed_part, fixed_parts, converted}
-use Rattle.p9_lang.specs.Modules.{Label, Typed, TypedRow}
+use Rattle.p9_lang.specs.Initialisers.{Fixed, Number, Address, NotFixed, moved, moved_by, moved_back, on_numbers, on_number, fixed_result, pointers_unsigned, number_operation, pointed_size, quotient_of, whole_quotient, fixed_sum, fixed_difference, chosen_fixed, fixed_truth, fixed_binary, FixedPart, base_address, found_offset, member_address, target_of, selected_address, with_one, with_two, with_three, address_at, fixed_constant, fixed_unary, fixed_cast, after, scalar_at, fixed_part, fixed_parts, converted}
+use Rattle.p9_lang.specs.Modules.{Typed, TypedRow}
 use Rattle.p9_lower.specs.Names.{Setting}
 use Rattle.p9_lower.specs.Modules.{base_symbol}
 use Rattle.p9_lower.specs.Premises.{is_found}

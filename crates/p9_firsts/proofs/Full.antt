@@ -1,21 +1,21 @@
 -- A structure of a file that is typed has members where it has a body.
-use Rattle.std.proofs.Common.{◌≡◌, ℕ, zero, suc, ◌+◌, ◌==◌, Bool, true, false, not, if◌then◌else◌, List, [], ◌∷◌, ◌++◌, map, length, slice_get, slice_set, Option, Some, None, Result, Ok, Err, refl, sym, ap, subst, ◌∙◌}
+use Rattle.std.proofs.Common.{◌≡◌, ℕ, zero, suc, ◌+◌, ◌==◌, Bool, true, false, if◌then◌else◌, List, [], ◌∷◌, ◌++◌, map, length, slice_get, slice_set, Option, Some, None, Result, Ok, Err, refl, sym, ap, subst, ◌∙◌}
 use Rattle.p9_lang.specs.declared.tree.Kind.{Kind}
 use Rattle.p9_lang.specs.declared.tree.Kind.TheVariants as kind
 use Rattle.p9_lang.specs.declared.tree.EntryBy.{EntryBy}
 use Rattle.p9_lang.specs.Names.{is_nameless}
-use Rattle.p9_lang.specs.Trees.{node, none, more, Syntax, SyntaxRow, nodes_of_row}
+use Rattle.p9_lang.specs.Trees.{node, none, more, Syntax, SyntaxRow}
 use Rattle.p9_lang.specs.Types.{TypeTree, Void, Int, Array, Meant, Nothing, Static, MemberTree, TagTree, Tags}
 use Rattle.p9_lang.specs.Rules.{Rule, Malformed, Undeclared, Redeclared, Broken, at_node, first_of, unless, and_then}
-use Rattle.p9_lang.specs.Constants.{Operand, Constant}
+use Rattle.p9_lang.specs.Constants.{Operand}
 use Rattle.p9_lang.specs.Expressions.{Verdict, verdict}
 use Rattle.p9_lang.specs.Scopes.{Known, Declared, Keyword, Struct, Union, Enum, TagName, Tagging, known_first, new_structure, new_tag, known_tag, tag_from, tagged_as, with_body, or_else, with_node, next_node, close_level, close_block, in_levels, innermost, around}
-use Rattle.p9_lang.specs.Declarators.{Step, Shape, Unsized, Sized, Points, Keeps, Head, Words, Named, Structure, Enumeration, head_of, Storage, storage_of, LengthBy, ByNothing, NameNode, name_of, Declaring, closed, with_length}
+use Rattle.p9_lang.specs.Declarators.{Step, Head, Words, Named, Structure, Enumeration, head_of, Storage, storage_of, LengthBy, ByNothing, NameNode, name_of, Declaring, closed, with_length}
 use Rattle.p9_lang.specs.Parts.{Role, EntryOf, Context, file_context, Part, Value, Declarator, Object, Members, Enumerator, Parameter, NamedType, Braced, Filled, CaseLabel, DefaultLabel, Statement, Frame, Judged, kind_at, members_in, follows, length_by, or_unnamed, declared_members, last_object, name_in}
 use Rattle.p9_lang.specs.Opening.{opened, context, of_head}
 use Rattle.p9_lang.specs.Entries.{is_index_next}
-use Rattle.p9_lang.specs.Declaring.{broken_rules, last_node, behind, declared, declare_object, declare_member, declare_parameter, close_type, object_declaring, function_declaring, with_body_open, enumerated, enumerator_value, complete_if, with_members, with_length_given, with_given_length, named_with, length_rules, declared_before, given_length, retyped, unless_broken, initialised}
-use Rattle.p9_lang.specs.Typing.{has, typeless, stepped, step_at, judged_brackets, judged_name, judged_text, judged_decl_name, judged_params, judged_enumerator, judged_list, judged_entry, judged_as, judged_expression, judged_member, judged, judge, judge_parts, judge_items, role_rules, with_rules, is_filled_by_text, is_block_static, is_whole, text_type, operands_of}
+use Rattle.p9_lang.specs.Declaring.{broken_rules, last_node, behind, declared, declare_object, declare_member, declare_parameter, object_declaring, function_declaring, with_body_open, complete_if, with_members, with_length_given, with_given_length, named_with, length_rules, declared_before, given_length, retyped, initialised}
+use Rattle.p9_lang.specs.Typing.{has, judged_brackets, judged_name, judged_text, judged_decl_name, judged_enumerator, judged_entry, judged_as, judged_expression, judged, judge, judge_parts, judge_items, role_rules, with_rules, is_filled_by_text, is_block_static, is_whole, text_type, operands_of}
 use Rattle.p9_lang.specs.Files.{mark_tag, mark_tags, typing_of, names_with_bodies}
 use Rattle.p9_lang.proofs.Counting.{then_of, unless_of}
 use Rattle.p9_firsts.specs.Whole.{BodiesAreFull}

@@ -8,7 +8,7 @@ use Rattle.p9_lang.specs.Names.{same_name}
 use Rattle.p9_lang.specs.Types.{TypeTree, Array, Tagged, MemberTree, TagTree, Tags}
 use Rattle.p9_lang.specs.Layout.{Extent, filled, with_member, closed, nothing_yet, members_extent, body_extent, tag_extent, layout, size_in, size_of}
 use Rattle.p9_lang.specs.Members.{Placed, or_empty, placed_from, placed_in_body, placed_in_tag, placed, direct_member}
-use Rattle.p9_lang.specs.Laws.{IsPlacedIn, ArePlacedIn}
+use Rattle.p9_lang.specs.Laws.{ArePlacedIn}
 use Rattle.p9_lang.specs.TagRules.{NoneContainsItself}
 use Rattle.p9_lang.specs.Constants.{Constant, NotConstant, Undefined, Null}
 use Rattle.p9_lang.specs.Constants as constants

@@ -1,5 +1,5 @@
 -- The first contents of a module's symbols are sound, where its objects are whole.
-use Rattle.std.proofs.Common.{◌≡◌, ◌≤◌, ℕ, zero, suc, ◌+◌, ◌*◌, ◌&&◌, ◌||◌, not, Bool, true, false, if◌then◌else◌, List, [], ◌∷◌, ◌++◌, map, length, length-append, Option, Some, None, Result, Ok, Err, refl, sym, ap, subst, ◌∙◌, arith}
+use Rattle.std.proofs.Common.{◌≡◌, ◌≤◌, ℕ, suc, ◌+◌, ◌&&◌, ◌||◌, not, Bool, true, false, if◌then◌else◌, List, [], ◌∷◌, ◌++◌, map, length, length-append, Option, Some, None, Result, Ok, refl, sym, ap, subst, ◌∙◌, arith}
 use Rattle.std.specs.List.{filter}
 use Rattle.std.specs.Prelude.{sum}
 use Rattle.std.proofs.lemmas.List.Sums.{sum-map}
@@ -19,7 +19,7 @@ use Rattle.p9_lang.specs.Conversions.{is_function}
 use Rattle.p9_lang.specs.Initialisers.{Write, Bytes, text_bytes, BrokenItem, first_writes}
 use Rattle.p9_lang.specs.Modules.{Label, Typed, TypedRow, Source}
 use Rattle.p9_lang.specs.Symbols.{Declaration, Way, Only, Tentative, Initial, Body, kind_of_node, name_label, initialiser, declares, label_type, way_of, declared_by, declared_body, declarations_in, declarations, declarations_of, uses_in_row, LocalObject, text_at, writes_of, static_at, is_declaration, local_objects, local_objects_in, SymbolKind, DeclaredOnly, Used, Code, Data, Common, Symbol, or_common, kind_of, first_type, symbol_of, symbol_names, is_symbol, local_kind, local_symbol, symbols}
-use Rattle.p9_tree.specs.Means.{first_of, DataSymbol, data_symbols}
+use Rattle.p9_tree.specs.Means.{first_of, data_symbols}
 use Rattle.p9_lower.specs.Modules.{setting_of}
 use Rattle.p9_lower.specs.Premises.{are_bytes, is_empty, lies_inside, first_is_sound, firsts_are_sound}
 use Rattle.p9_firsts.specs.Whole.{BodiesAreFull, texts_have_bytes, row_has_bytes, names_are_found, row_is_found, node_is_found, text_has_bytes, TextIsWhole, TextsAreWhole, RowTextsAreWhole, DeclaredIsWhole, ObjectsAreWhole, RowIsWhole, FilledAs, DeclarationsAgree}
@@ -261,9 +261,11 @@ module _ (m : Source) (ends : NoneContainsItself m.tags) (full : BodiesAreFull m
 
   text_sound : (texts : List (List ℕ)) (number token : ℕ) (type : TypeTree) (means : Meant) → type ≡ text_type texts → are_bytes (text_bytes texts) ≡ true
       → ObjectsAreSound (text_at (kind.Text texts) (record { number = number; token = token; type = type; means = means }))
-  text_sound texts number token type (Static k) e b =
-      (λ first z. let y : Ok (record { offset = 0; type = type; content = Bytes (text_bytes texts ++ 0 ∷ []) } ∷ []) ≡ first = cc in
-      subst (λ f. first_is_sound (setting_of m) (size_of m.tags type) f ≡ true) y (text_first texts type e b), tt)
+  text_sound texts number token type (Static k) e b = (
+    λ first z. let y : Ok (record { offset = 0; type = type; content = Bytes (text_bytes texts ++ 0 ∷ []) } ∷ []) ≡ first = cc in
+        subst (λ f. first_is_sound (setting_of m) (size_of m.tags type) f ≡ true) y (text_first texts type e b),
+    tt,
+  )
   text_sound texts number token type Nothing e b = tt
   text_sound texts number token type (Outer name) e b = tt
   text_sound texts number token type (Auto k) e b = tt

@@ -1,17 +1,17 @@
 -- What the first contents of objects rest on: structures that have members, texts of bytes, names that
 -- have symbols, and objects of complete types.
-use Rattle.std.specs.Prelude.{◌≡◌, ℕ, Bool, true, false, ◌&&◌, List, [], ◌∷◌, slice_get, Option, Some, None}
+use Rattle.std.specs.Prelude.{◌≡◌, ℕ, Bool, true, ◌&&◌, List, [], ◌∷◌, slice_get, Option, Some, None}
 use Rattle.p9_lang.specs.declared.tree.Kind.{Kind}
 use Rattle.p9_lang.specs.declared.tree.Kind.TheVariants as kind
 use Rattle.p9_lang.specs.Trees.{Labelled, Row, node, none, more}
 use Rattle.p9_lang.specs.Types.{TypeTree, TagTree, Tags, Meant, Nothing, Outer, Static, Auto, EnumValue, TypeName}
-use Rattle.p9_lang.specs.Layout.{size_of, is_complete}
+use Rattle.p9_lang.specs.Layout.{is_complete}
 use Rattle.p9_lang.specs.Parts.{is_declarator}
 use Rattle.p9_lang.specs.Typing.{text_type}
 use Rattle.p9_lang.specs.Scopes.{system_type}
 use Rattle.p9_lang.specs.Initialisers.{text_bytes}
 use Rattle.p9_lang.specs.Modules.{Label, Typed, TypedRow, Source}
-use Rattle.p9_lang.specs.Symbols.{Declaration, Way, Only, Tentative, Initial, Body, kind_of_node, name_label, initialiser, is_declaration, first_type, declarations, declarations_of}
+use Rattle.p9_lang.specs.Symbols.{Declaration, Initial, kind_of_node, name_label, initialiser, is_declaration, first_type, declarations, declarations_of}
 use Rattle.p9_lower.specs.Names.{Setting, outer_symbol, static_symbol}
 use Rattle.p9_lower.specs.Premises.{are_bytes, is_found}
 
