@@ -1,19 +1,18 @@
 -- A text of a file that is typed has the type of its bytes in the end.
-use Rattle.std.proofs.Common.{◌≡◌, ℕ, ◌+◌, Bool, true, false, if◌then◌else◌, List, [], ◌∷◌, ◌++◌, map, length, sum, Result, Ok, Err, refl, sym, ap, subst, ◌∙◌}
+use Rattle.std.proofs.Common.{◌≡◌, ℕ, ◌+◌, Bool, true, false, if◌then◌else◌, List, [], ◌∷◌, ◌++◌, length, Ok, refl, ap, subst}
 use Rattle.p9_lang.specs.declared.tree.Kind.{Kind}
 use Rattle.p9_lang.specs.declared.tree.Kind.TheVariants as kind
-use Rattle.p9_lang.specs.Trees.{node, none, more, Syntax, SyntaxRow, nodes_of_row}
+use Rattle.p9_lang.specs.Trees.{node, none, more, Syntax, SyntaxRow}
 use Rattle.p9_lang.specs.Types.{TypeTree, Meant, Nothing, Static}
-use Rattle.p9_lang.specs.Rules.{Rule, BadConstant, breaks_if, and_then}
+use Rattle.p9_lang.specs.Rules.{Rule, and_then}
 use Rattle.p9_lang.specs.Constants.{NotConstant}
 use Rattle.p9_lang.specs.Scopes.{Known, known_first, with_node, next_node}
-use Rattle.p9_lang.specs.Parts.{Role, Context, file_context, Part, Value, Frame, kind_at}
+use Rattle.p9_lang.specs.Parts.{Context, file_context, Part, Value, Frame, kind_at}
 use Rattle.p9_lang.specs.Opening.{opened, context}
 use Rattle.p9_lang.specs.Declaring.{broken_rules, behind}
-use Rattle.p9_lang.specs.Typing.{has, judged_text, judged, judge, judge_parts, judge_items, role_rules, operand, is_filled_by_text, text_type}
+use Rattle.p9_lang.specs.Typing.{has, judged, judge, judge_parts, judge_items, role_rules, operand, is_filled_by_text, text_type}
 use Rattle.p9_lang.specs.Files.{Typing, typing_of, names_with_bodies}
-use Rattle.p9_lang.specs.Modules.{typed, typed_row, label_of}
-use Rattle.p9_lang.proofs.Growing.{stays}
+use Rattle.p9_lang.specs.Modules.{typed, typed_row}
 use Rattle.p9_lang.proofs.Counting.{then_of, unless_of}
 use Rattle.p9_sound.specs.Labels.{AreKnown}
 use Rattle.p9_sound.proofs.Numbering.{kinds_after, kinds_after_row, extends_self, extends_last, extends_tree, extends_row}

@@ -4,4 +4,6 @@
 
 mod laws;
 
-pub use laws::{bodies_have_members, contents_are_sound, firsts_are_sound, texts_are_typed, writes_are_sound};
+pub use laws::{
+    bodies_have_members, contents_are_sound, firsts_are_sound, texts_are_typed, writes_are_sound,
+};
