@@ -6,3 +6,5 @@ pub mod Symbols
 pub mod Full
 pub mod Texts
 pub mod Files
+pub mod Closed
+pub mod Holding

@@ -1,4 +1,5 @@
 // Laws of the definitions in `specs/`. Each function does nothing; its contract is the law.
+ghost use Rattle.p9_firsts.specs.Typedefs.{TypedefsHaveLengths};
 ghost use Rattle.p9_firsts.specs.Laws.{BodiesHaveMembers, ContentsAreSound, FirstsAreSound, TextsAreTyped, WritesAreSound};
 
 /// What an initialiser writes first into an object of a complete type lies inside it: a number for an integer
@@ -25,6 +26,12 @@ pub fn bodies_have_members()
 #[tactic(auto, using(crate::proofs::Texts::texts_are_typed))]
 pub fn texts_are_typed()
     ensures { TextsAreTyped }
+{}
+
+/// While a file is typed, no name in scope stands for the type of an array without a length.
+#[tactic(auto, using(crate::proofs::Closed::typedefs_have_lengths))]
+pub fn typedefs_have_lengths()
+    ensures { TypedefsHaveLengths }
 {}
 
 /// The first contents of a typed module are as the law of typed trees asks, where its objects are whole, its
