@@ -7,3 +7,7 @@ pub mod Operands
 pub mod Nodes
 pub mod Constants
 pub mod Expressions
+pub mod Counts
+pub mod NamesOf
+pub mod Automatics
+pub mod Statements

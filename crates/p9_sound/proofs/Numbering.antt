@@ -139,7 +139,7 @@ steps_with_length kinds n (step ∷ steps) h = (
   steps_with_length kinds n steps h.1,
 )
 
-name_number : (m : ℕ) (shape : Shape) (steps : List Step) (n : NameNode) → name_of (record { number = m; shape = shape } ∷ steps) ≡ Some n → n.number ≡ m
+pub name_number : (m : ℕ) (shape : Shape) (steps : List Step) (n : NameNode) → name_of (record { number = m; shape = shape } ∷ steps) ≡ Some n → n.number ≡ m
 name_number m (Names name) steps n e =
     let z : record { name = name; number = m } ≡ n = cc in ap (λ x. x.number) (sym z)
 name_number m Keeps steps n e = cc

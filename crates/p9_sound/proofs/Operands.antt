@@ -139,7 +139,7 @@ if_part : (b : Bool) (part : Part) (s : Known) (rules : List Rule) (q : Part × 
 if_part true part s rules q e = let z : (part, s) ≡ q = cc in ap (λ x. x.0) z
 if_part false part s rules q e = ap (λ x. x.0) (unless_of (broken_rules (last_node s) rules) (part, s) q e)
 
-initialised_part : (k : Kind) (f : Frame) (before : List Part) (part : Part) (s : Known) (q : Part × Known) → initialised k f before part s ≡ Ok q → part ≡ q.0
+pub initialised_part : (k : Kind) (f : Frame) (before : List Part) (part : Part) (s : Known) (q : Part × Known) → initialised k f before part s ≡ Ok q → part ≡ q.0
 initialised_part (kind.Declaration spec inits) f before part s q e =
     let x = then_of (with_length_given f.base (last_object before) part s)
     (λ given. unless_broken (initialiser_rules given.tags (object_role (last_object before)) part) part given) q e in

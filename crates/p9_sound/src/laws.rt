@@ -2,6 +2,8 @@
 ghost use Rattle.p9_sound.specs.Labels.{EarlierLabelsStay, LabelsStay};
 ghost use Rattle.p9_sound.specs.Nodes.{NodesAreTyped};
 ghost use Rattle.p9_sound.specs.Constants.{TypedConstantsAreIntegers};
+ghost use Rattle.p9_sound.specs.Automatics.{AutomaticsAreNumbered};
+ghost use Rattle.p9_sound.specs.Statements.{NumberedBlocksAreKnown, TypedStatementsAreSound};
 ghost use Rattle.p9_sound.specs.Expressions.{TypedExpressionsAreSound};
 
 /// Behind a node that is typed, the nodes before it have the types and meanings that they had, but for
@@ -35,4 +37,23 @@ pub fn typed_constants_are_integers()
 #[tactic(auto, using(crate::proofs::Expressions::typed_expressions_are_sound))]
 pub fn typed_expressions_are_sound()
     ensures { TypedExpressionsAreSound }
+{}
+
+/// The automatics of a statement have the numbers from the count before it up to the count behind it, in the
+/// order of their nodes.
+#[tactic(auto, using(crate::proofs::Automatics::automatics_are_numbered))]
+pub fn automatics_are_numbered()
+    ensures { AutomaticsAreNumbered }
+{}
+
+/// So in each block the automatics have the types that stand at their numbers behind those of parameters.
+#[tactic(auto, using(crate::proofs::Statements::numbered_blocks_are_known))]
+pub fn numbered_blocks_are_known()
+    ensures { NumberedBlocksAreKnown }
+{}
+
+/// Such statements, with such expressions, are as the law of trees asks.
+#[tactic(auto, using(crate::proofs::Statements::typed_statements_are_sound))]
+pub fn typed_statements_are_sound()
+    ensures { TypedStatementsAreSound }
 {}

@@ -4,6 +4,7 @@
 mod laws;
 
 pub use laws::{
-    earlier_labels_stay, labels_stay, nodes_are_typed, typed_constants_are_integers,
-    typed_expressions_are_sound,
+    automatics_are_numbered, earlier_labels_stay, labels_stay, nodes_are_typed,
+    numbered_blocks_are_known, typed_constants_are_integers, typed_expressions_are_sound,
+    typed_statements_are_sound,
 };
