@@ -80,11 +80,11 @@ in_levels_closed x [] d h e = cc
 in_levels_closed x (level ∷ levels) d h e =
     or_closed (in_level x level) (in_levels x levels) d (λ k. in_level_closed x level d h.0 k) (λ k. in_levels_closed x levels d h.1 k) e
 
-first_empty : {A : Type 0} (xs ys : List A) → xs ++ ys ≡ [] → xs ≡ []
+pub first_empty : {A : Type 0} (xs ys : List A) → xs ++ ys ≡ [] → xs ≡ []
 first_empty [] ys e = refl
 first_empty (x ∷ xs) ys e = cc
 
-last_empty : {A : Type 0} (xs ys : List A) → xs ++ ys ≡ [] → ys ≡ []
+pub last_empty : {A : Type 0} (xs ys : List A) → xs ++ ys ≡ [] → ys ≡ []
 last_empty [] ys e = e
 last_empty (x ∷ xs) ys e = cc
 
@@ -133,9 +133,9 @@ head_closed said (word.Volatile ∷ words) = head_closed said words
 
 -- OPENING
 
-record OpensClosed (o : Frame × Known) : Type 0 where
-  base : HasItsLength o.0.base
-  known : IsClosed o.1
+pub record OpensClosed (o : Frame × Known) : Type 0 where
+  pub base : HasItsLength o.0.base
+  pub known : IsClosed o.1
 
 type_name_length : (storage : Storage) (c : Context) (x name : List ℕ) (type : TypeTree) (means : Meant) (is_static is_filled : Bool) → NamesItsLength means
     → HasItsLength (of_type_name storage c x (Some (record { name = name; type = type; means = means; is_static = is_static; is_filled = is_filled }))).base
@@ -183,7 +183,7 @@ head_opens storage c (Named x) s k v =
 head_opens storage c (Structure is_union name members) s k v = record { base = tt; known = same_closed s _ (tagged_same _ name _ s) v }
 head_opens storage c (Enumeration name count) s k v = record { base = tt; known = same_closed s _ (tagged_same Enum name _ s) v }
 
-opens_closed : (k : Kind) (c : Context) (s : Known) → IsClosed s → OpensClosed (opened k c s)
+pub opens_closed : (k : Kind) (c : Context) (s : Known) → IsClosed s → OpensClosed (opened k c s)
 opens_closed (kind.Declaration spec inits) c s v = head_opens _ c _ s (head_closed nothing_said spec.words) v
 opens_closed (kind.Function spec) c s v =
     head_opens (storage_of spec.words) c (head_of spec.words) (record s { autos = 0 }) (head_closed nothing_said spec.words)
@@ -200,11 +200,11 @@ opens_closed _ c s v = record { base = tt; known = v }
 made_as : (type made : TypeTree) (r : Result TypeTree Rule) → HasItsLength type → r ≡ Ok type → r ≡ Ok made → HasItsLength made
 made_as type made r h d e = let z : type ≡ made = cc in subst (λ t. HasItsLength t) z h
 
-unless_made : (rules : List Rule) (type made : TypeTree) → unless_rules rules type ≡ Ok made → (rules ≡ []) × (type ≡ made)
+pub unless_made : (rules : List Rule) (type made : TypeTree) → unless_rules rules type ≡ Ok made → (rules ≡ []) × (type ≡ made)
 unless_made [] type made e = (refl, cc)
 unless_made (rule ∷ rules) type made e = cc
 
-sized_length : (rules : List Rule) (tags : Tags) (type : TypeTree) (c : Constant) (made : TypeTree)
+pub sized_length : (rules : List Rule) (tags : Tags) (type : TypeTree) (c : Constant) (made : TypeTree)
     → unless_rules (rules ++ array_rules tags type c) (Array type (word_of c)) ≡ Ok made → HasItsLength made
 sized_length rules tags type NotConstant made e =
     let z : BadConstant ∷ [] ≡ [] = last_empty rules (BadConstant ∷ []) (unless_made (rules ++ BadConstant ∷ []) (Array type 0) made e).0 in cc
@@ -234,7 +234,7 @@ shaped_length tags is_outermost Unsized type made h e =
 shaped_length tags is_outermost (Takes parameters level) type made h e =
     subst (λ t. HasItsLength t) (unless_made (breaks_if (is_array type || (is_function type || is_structure type)) BadOperands) (Function type parameters) made e).1 tt
 
-step_made : (number : ℕ) (m : Result TypeTree Rule) (made : TypeTree) → broken_at number m ≡ Ok made → m ≡ Ok made
+pub step_made : (number : ℕ) (m : Result TypeTree Rule) (made : TypeTree) → broken_at number m ≡ Ok made → m ≡ Ok made
 step_made number (Ok x) made e = let z : x ≡ made = cc in ap (λ y. Ok y) z
 step_made number (Err rule) made e = cc
 
@@ -248,7 +248,7 @@ from_length tags type (step ∷ steps) types made h e =
     (step_made step.number (shaped tags ByNothing (list_all makes_no_type steps) step.shape type) r.0 r.1) in
     from_length tags r.0 steps (slice_set types step.number r.0) made g r.2
 
-closed_length : (tags : Tags) (base : TypeTree) (steps : List Step) (types : List TypeTree) (made : TypeTree × List TypeTree) → HasItsLength base
+pub closed_length : (tags : Tags) (base : TypeTree) (steps : List Step) (types : List TypeTree) (made : TypeTree × List TypeTree) → HasItsLength base
     → closed tags ByNothing base steps types ≡ Ok made → HasItsLength made.0
 closed_length tags base steps types made h e = from_length tags base (reverse steps) types made h e
 
@@ -261,7 +261,7 @@ no_rules : {A : Type 0} (number : ℕ) (rules : List Rule) (x y : A) → unless 
 no_rules number [] x y e = refl
 no_rules number (r ∷ rs) x y e = cc
 
-named_none : (last : ℕ) (rules : Option TypeTree → List Rule) (m : Result (TypeTree × List TypeTree) Broken) (made : TypeTree × List TypeTree)
+pub named_none : (last : ℕ) (rules : Option TypeTree → List Rule) (m : Result (TypeTree × List TypeTree) Broken) (made : TypeTree × List TypeTree)
     → named_with last rules m ≡ Ok made → rules (Some made.0) ≡ []
 named_none last rules (Ok x) made e =
     let z = unless_of (broken_rules last (rules (Some x.0))) x made e in
@@ -278,11 +278,11 @@ ShapeIsClosed Points = Unit {0}
 ShapeIsClosed (Sized c) = Unit {0}
 ShapeIsClosed Unsized = Unit {0}
 
-abbrev StepsAreClosed : List Step → Type 0
+abbrev pub StepsAreClosed : List Step → Type 0
 StepsAreClosed [] = Unit {0}
 StepsAreClosed (step ∷ steps) = ShapeIsClosed step.shape × StepsAreClosed steps
 
-abbrev PartIsClosed : (asked : TypeTree → Type 0) → Part → Type 0
+abbrev pub PartIsClosed : (asked : TypeTree → Type 0) → Part → Type 0
 PartIsClosed asked (Declarator steps) = StepsAreClosed steps
 PartIsClosed asked (Object type steps last role) = asked type × StepsAreClosed steps
 PartIsClosed asked (Value o) = Unit {0}
@@ -296,12 +296,12 @@ PartIsClosed asked (CaseLabel word) = Unit {0}
 PartIsClosed asked DefaultLabel = Unit {0}
 PartIsClosed asked Statement = Unit {0}
 
-abbrev PartsAreClosed : (asked : TypeTree → Type 0) → List Part → Type 0
+abbrev pub PartsAreClosed : (asked : TypeTree → Type 0) → List Part → Type 0
 PartsAreClosed asked [] = Unit {0}
 PartsAreClosed asked (part ∷ parts) = PartIsClosed asked part × PartsAreClosed asked parts
 
 -- a named type asks that its type has its length
-abbrev Asked : Kind → TypeTree → Type 0
+abbrev pub Asked : Kind → TypeTree → Type 0
 Asked (kind.NamedType spec) type = HasItsLength type
 Asked k type = Unit {0}
 
@@ -309,7 +309,7 @@ steps_append : (xs ys : List Step) → StepsAreClosed xs → StepsAreClosed ys �
 steps_append [] ys h g = g
 steps_append (x ∷ xs) ys h g = (h.0, steps_append xs ys h.1 g)
 
-parts_append : (asked : TypeTree → Type 0) (before : List Part) (part : Part) → PartsAreClosed asked before → PartIsClosed asked part
+pub parts_append : (asked : TypeTree → Type 0) (before : List Part) (part : Part) → PartsAreClosed asked before → PartIsClosed asked part
     → PartsAreClosed asked (before ++ part ∷ [])
 parts_append asked [] part h g = (g, tt)
 parts_append asked (p ∷ ps) part h g = (h.0, parts_append asked ps part h.1 g)
@@ -362,10 +362,10 @@ type_length _ base h g = g
 abbrev GivesClosed : (asked : TypeTree → Type 0) → Judged → Type 0
 GivesClosed asked m = (r : Part × Known) → m ≡ Ok r → IsClosed r.1 × PartIsClosed asked r.0
 
-abbrev Never : TypeTree → Type 0
+abbrev pub Never : TypeTree → Type 0
 Never type = ⊥
 
-abbrev Any : TypeTree → Type 0
+abbrev pub Any : TypeTree → Type 0
 Any type = Unit {0}
 
 err_closed : (asked : TypeTree → Type 0) (broken : Broken) → GivesClosed asked (Err broken)
@@ -494,7 +494,7 @@ module _ (s : Known) (v : IsClosed s) where
       }
 
   -- only what has no initialiser may name a type
-  no_initialiser : (d : Declaring) (tags : Tags) (x : List ℕ) (old : Option Declared) (type : TypeTree) → naming_rules tags d x old (Some type) ≡ []
+  pub no_initialiser : (d : Declaring) (tags : Tags) (x : List ℕ) (old : Option Declared) (type : TypeTree) → naming_rules tags d x old (Some type) ≡ []
       → is_typedef d.storage ≡ true → d.has_initialiser ≡ false
   no_initialiser d tags x old type e t =
       by (is_typedef d.storage) d.has_initialiser t
@@ -633,7 +633,7 @@ module _ (s : Known) (v : IsClosed s) where
       if_closed Any (is_index_next entry_by before) _ _ (ok_closed Any s part v l) (unless_closed Any _ s part v l) r e
   initialised_closed k f before part l r e = ok_closed (Asked k) s part v l r e
 
-  behind_closed : (k : Kind) (f : Frame) (before : List Part) (part : Part) (rest : SyntaxRow) → HasItsLength f.base → PartIsClosed Never part
+  pub behind_closed : (k : Kind) (f : Frame) (before : List Part) (part : Part) (rest : SyntaxRow) → HasItsLength f.base → PartIsClosed Never part
       → GivesClosed (Asked k) (behind k f before part rest s)
   behind_closed k f before (Value o) rest b l = initialised_closed k f before (Value o) tt
   behind_closed k f before (Braced count) rest b l = initialised_closed k f before (Braced count) tt
@@ -653,7 +653,7 @@ module _ (s : Known) (v : IsClosed s) where
 -- THE RECURSION
 
 mutual
-  judge_closed : (t : Syntax) (c : Context) (s : Known) → IsClosed s → GivesClosed Never (judge t c s)
+  pub judge_closed : (t : Syntax) (c : Context) (s : Known) → IsClosed s → GivesClosed Never (judge t c s)
   judge_closed (node k at parts) c s v r e =
       let z = with_rules_is _ (role_rules c.role k) (and_then (judge_parts k (opened k c s).0 [] parts (opened k c s).1) _) r e in
       let x = then_of (judge_parts k (opened k c s).0 [] parts (opened k c s).1) _ r z in
@@ -661,7 +661,7 @@ mutual
       let p = parts_closed k (opened k c s).0 [] parts (opened k c s).1 o.base o.known tt x.0 x.1 in
       judged_closed x.0.1 p.0 k (opened k c s).0 x.0.0 o.base p.1 r x.2
 
-  parts_closed : (k : Kind) (f : Frame) (before : List Part) (ts : SyntaxRow) (s : Known) → HasItsLength f.base → IsClosed s → PartsAreClosed (Asked k) before
+  pub parts_closed : (k : Kind) (f : Frame) (before : List Part) (ts : SyntaxRow) (s : Known) → HasItsLength f.base → IsClosed s → PartsAreClosed (Asked k) before
       → (r : List Part × Known) → judge_parts k f before ts s ≡ Ok r → IsClosed r.1 × PartsAreClosed (Asked k) r.0
   parts_closed k f before none s b v h r e =
       let z : (before, s) ≡ r = cc in subst (λ x. IsClosed x.1 × PartsAreClosed (Asked k) x.0) z (v, h)

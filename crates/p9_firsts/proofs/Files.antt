@@ -10,6 +10,7 @@ use Rattle.p9_firsts.specs.Laws.{FirstsAreSound}
 use Rattle.p9_firsts.proofs.Symbols.{contents_are_sound}
 use Rattle.p9_firsts.proofs.Full.{bodies_have_members}
 use Rattle.p9_firsts.proofs.Texts.{texts_are_typed}
+use Rattle.p9_firsts.proofs.Objects.{objects_are_complete}
 
 -- labels change no texts
 mutual
@@ -23,8 +24,9 @@ mutual
       ∙ ap (λ b. texts_have_bytes t && b) (typed_row_bytes types means (first + nodes_of t) ts)
 
 pub firsts_are_sound : FirstsAreSound
-firsts_are_sound m typing whole agree b g =
+firsts_are_sound m typing agree b g =
     contents_are_sound (source_of m) (structures_end (row_of m.tree.items) m.tree.marks (typing_in m) typing)
     (bodies_have_members (row_of m.tree.items) m.tree.marks (typing_in m) typing)
-    (texts_are_typed (row_of m.tree.items) m.tree.marks (typing_in m) typing) whole agree
+    (texts_are_typed (row_of m.tree.items) m.tree.marks (typing_in m) typing)
+    (objects_are_complete (row_of m.tree.items) m.tree.marks (typing_in m) typing) agree
     (typed_row_bytes (types_of m.types) (all_meant m.binds) 0 (row_of m.tree.items) ∙ b) g

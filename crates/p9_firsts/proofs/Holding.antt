@@ -30,7 +30,7 @@ get_before [] ys n h = absurd (omega (arith, h))
 get_before (x ∷ xs) ys zero h = refl
 get_before (x ∷ xs) ys (suc n) h = get_before xs ys n (omega (arith, h))
 
-get_apart : {A : Type 0} (xs : List A) (m n : ℕ) (x : A) → (n ≡ m → ⊥) → slice_get (slice_set xs m x) n ≡ slice_get xs n
+pub get_apart : {A : Type 0} (xs : List A) (m n : ℕ) (x : A) → (n ≡ m → ⊥) → slice_get (slice_set xs m x) n ≡ slice_get xs n
 get_apart [] m n x h = refl
 get_apart (y ∷ ys) zero zero x h = absurd (h refl)
 get_apart (y ∷ ys) zero (suc n) x h = refl
@@ -45,7 +45,7 @@ with_length_number n m (Sized length) = refl
 with_length_number n m Unsized = refl
 with_length_number n m (Takes parameters level) = refl
 
-name_number : (m : ℕ) (shape : Shape) (steps : List Step) (n : NameNode) → name_of (record { number = m; shape = shape } ∷ steps) ≡ Some n → n.number ≡ m
+pub name_number : (m : ℕ) (shape : Shape) (steps : List Step) (n : NameNode) → name_of (record { number = m; shape = shape } ∷ steps) ≡ Some n → n.number ≡ m
 name_number m (Names name) steps n e = let z : record { name = name; number = m } ≡ n = cc in ap (λ x. x.number) (sym z)
 name_number m Keeps steps n e = cc
 name_number m Points steps n e = cc
@@ -53,7 +53,7 @@ name_number m (Sized length) steps n e = cc
 name_number m Unsized steps n e = cc
 name_number m (Takes parameters level) steps n e = cc
 
-named_is : (last : ℕ) (rules : Option TypeTree → List Rule) (m : Result (TypeTree × List TypeTree) Broken) (made : TypeTree × List TypeTree)
+pub named_is : (last : ℕ) (rules : Option TypeTree → List Rule) (m : Result (TypeTree × List TypeTree) Broken) (made : TypeTree × List TypeTree)
     → named_with last rules m ≡ Ok made → m ≡ Ok made
 named_is last rules (Ok x) made e = ap (λ y. Ok y) (unless_of (broken_rules last (rules (Some x.0))) x made e)
 named_is last rules (Err broken) made e = cc
@@ -91,7 +91,7 @@ head_same storage c (Named x) s = (refl, stays s.tags)
 head_same storage c (Structure is_union name members) s = tagged_same _ name _ s
 head_same storage c (Enumeration name count) s = tagged_same Enum name _ s
 
-opened_same : (k : Kind) (c : Context) (s : Known) → SameTypes s (opened k c s).1
+pub opened_same : (k : Kind) (c : Context) (s : Known) → SameTypes s (opened k c s).1
 opened_same (kind.Declaration spec inits) c s = head_same _ c _ s
 opened_same (kind.Function spec) c s = head_same (storage_of spec.words) c (head_of spec.words) (record s { autos = 0 })
 opened_same (kind.Member spec) c s = head_same _ c _ s
@@ -100,6 +100,20 @@ opened_same (kind.NamedType spec) c s = head_same _ c _ s
 opened_same kind.Block c s = (refl, stays s.tags)
 opened_same (kind.Params inner void_word) c s = (refl, stays s.tags)
 opened_same _ c s = (refl, stays s.tags)
+
+abbrev pub is_initialiser : Part → Bool
+is_initialiser (Value o) = true
+is_initialiser (Braced count) = true
+is_initialiser (Declarator steps) = false
+is_initialiser (Object type steps last role) = false
+is_initialiser (Members members) = false
+is_initialiser (Enumerator x value) = false
+is_initialiser (Parameter type) = false
+is_initialiser (NamedType type) = false
+is_initialiser (Filled next) = false
+is_initialiser (CaseLabel word) = false
+is_initialiser DefaultLabel = false
+is_initialiser Statement = false
 
 -- TYPES THAT ARE HELD: those at some numbers, none of which is a new node's or a waiting step's
 
@@ -118,10 +132,10 @@ module _ (P : ℕ → Type 0) where
       let a : length q.types ≡ length s.types = ap length t in
       record { types = λ n h i. ap (λ xs. slice_get xs n) t; count = omega (arith, a); grows = g }
 
-  same_holds : (s : Known) → Holds 0 s s
+  pub same_holds : (s : Known) → Holds 0 s s
   same_holds s = alike_holds s s refl (stays s.tags)
 
-  then_holds : (m n : ℕ) (s r q : Known) → Holds m s r → Holds n r q → Holds (m + n) s q
+  pub then_holds : (m n : ℕ) (s r q : Known) → Holds m s r → Holds n r q → Holds (m + n) s q
   then_holds m n s r q first second =
       let a = first.count in
       let c = second.count in
@@ -189,20 +203,20 @@ module _ (P : ℕ → Type 0) where
   inner_apart (Declarator steps ∷ parts) h = h.0
   inner_apart (_ ∷ parts) h = tt
 
-  parts_append : (before : List Part) (part : Part) → PartsAreApart before → PartIsApart part → PartsAreApart (before ++ part ∷ [])
+  pub parts_append : (before : List Part) (part : Part) → PartsAreApart before → PartIsApart part → PartsAreApart (before ++ part ∷ [])
   parts_append [] part h k = (k, tt)
   parts_append (p ∷ ps) part h k = (h.0, parts_append ps part h.1 k)
 
-  abbrev ObjectIsApart : Option Part → Type 0
+  abbrev pub ObjectIsApart : Option Part → Type 0
   ObjectIsApart None = Unit {0}
   ObjectIsApart (Some part) = PartIsApart part
 
-  or_apart : (o : Option Part) (part : Part) → ObjectIsApart o → PartIsApart part → ObjectIsApart (or_object o part)
+  pub or_apart : (o : Option Part) (part : Part) → ObjectIsApart o → PartIsApart part → ObjectIsApart (or_object o part)
   or_apart (Some later) part h k = h
   or_apart None (Object type steps last role) h k = k
   or_apart None _ h k = tt
 
-  last_apart : (parts : List Part) → PartsAreApart parts → ObjectIsApart (last_object parts)
+  pub last_apart : (parts : List Part) → PartsAreApart parts → ObjectIsApart (last_object parts)
   last_apart [] h = tt
   last_apart (part ∷ parts) h = or_apart (last_object parts) part (last_apart parts h.1) h.0
 
@@ -263,7 +277,7 @@ module _ (P : ℕ → Type 0) where
           grows = subst (λ tags. Grows s.tags tags) (sym g) (stays s.tags);
         }
 
-    has_held : (rules : List Rule) (type : TypeTree) (means : Meant) (part : Part) (q : Known) → q.types ≡ s.types → q.tags ≡ s.tags
+    pub has_held : (rules : List Rule) (type : TypeTree) (means : Meant) (part : Part) (q : Known) → q.types ≡ s.types → q.tags ≡ s.tags
         → PartIsApart part → GivesHeld 1 s (has rules type means part q)
     has_held rules type means part q t g f =
         unless_held 1 (broken_rules (next_node q) rules) s (with_node type means q) part (node_holds q type means t g) f
@@ -316,7 +330,7 @@ module _ (P : ℕ → Type 0) where
     expression_held k role None = err_held 1 s (at_node (next_node s) Malformed)
     expression_held k role (Some operands) = as_held k operands (verdict s.tags (is_whole role) k operands)
 
-    judged_held : (k : Kind) (f : Frame) (parts : List Part) → PartsAreApart parts → GivesHeld 1 s (judged k f parts s)
+    pub judged_held : (k : Kind) (f : Frame) (parts : List Part) → PartsAreApart parts → GivesHeld 1 s (judged k f parts s)
     judged_held (kind.Declaration spec inits) f parts h = has_held _ Void Nothing Statement s refl refl tt
     judged_held (kind.Function spec) f parts h = has_held _ Void Nothing Statement (close_level s) refl refl tt
     judged_held (kind.Member spec) f parts h = has_held _ Void Nothing _ s refl refl tt
@@ -431,7 +445,7 @@ module _ (P : ℕ → Type 0) where
         (named_holds (declared_parameter f name made s) (slice_set made.1 name.number (adjusted made.0))
         (parameter_retypes made.1 name.number (adjusted made.0) r g) refl refl) o)
 
-    declared_held : (k : Kind) (f : Frame) (before : List Part) (steps : List Step) (rest : SyntaxRow) → StepsApart steps
+    pub declared_held : (k : Kind) (f : Frame) (before : List Part) (steps : List Step) (rest : SyntaxRow) → StepsApart steps
         → GivesHeld 0 s (declared k f before steps rest s)
     declared_held (kind.Declaration spec inits) f before steps rest o =
         object_held (object_declaring f (follows rest) s) (length_by (follows rest)) f.base steps (name_of steps) o refl
@@ -469,7 +483,7 @@ module _ (P : ℕ → Type 0) where
     unchanged_holds : (q : Known) (m : Result Known Broken) → m ≡ Ok s → m ≡ Ok q → Holds 0 s q
     unchanged_holds q m d e = let z : s ≡ q = cc in subst (λ x. Holds 0 s x) z (same_holds s)
 
-    given_holds : (base : TypeTree) (object : Option Part) (part : Part) (q : Known) → ObjectIsApart object → with_length_given base object part s ≡ Ok q
+    pub given_holds : (base : TypeTree) (object : Option Part) (part : Part) (q : Known) → ObjectIsApart object → with_length_given base object part s ≡ Ok q
         → Holds 0 s q
     given_holds base (Some (Object (Array element zero) steps last role)) part q o e =
         given_length_holds base steps last (given_length part) (name_in (name_of steps)) q o e
@@ -484,22 +498,29 @@ module _ (P : ℕ → Type 0) where
         if_held 0 s (is_index_next entry_by before) _ _ (ok_held 0 s s part (same_holds s) l) (unless_held 0 _ s s part (same_holds s) l) r e
     initialised_held k f before part h l r e = ok_held 0 s s part (same_holds s) l r e
 
+    -- a part that is no initialiser looks at no other part's steps
+    pub other_held : (k : Kind) (f : Frame) (before : List Part) (part : Part) (rest : SyntaxRow) → is_initialiser part ≡ false → PartIsApart part
+        → GivesHeld 0 s (behind k f before part rest s)
+    other_held k f before (Value o) rest n l = cc
+    other_held k f before (Braced count) rest n l = cc
+    other_held k f before (Declarator steps) rest n l = declared_held k f before steps rest l
+    other_held k f before (Enumerator x value) rest n l = enumerated_held x (enumerator_value before value)
+    other_held k f before (Members members) rest n l =
+        ok_held 0 s (with_members f before (Members members) s) (Members members)
+        (complete_holds (suc (length before) == f.braces) f.tag (members_in (before ++ Members members ∷ []))) tt
+    other_held k f before (CaseLabel word) rest n l = unless_held 0 _ s s (CaseLabel word) (same_holds s) tt
+    other_held k f before DefaultLabel rest n l = unless_held 0 _ s s DefaultLabel (same_holds s) tt
+    other_held k f before (Object type steps last role) rest n l = ok_held 0 s s (Object type steps last role) (same_holds s) l
+    other_held k f before (Parameter type) rest n l = ok_held 0 s s (Parameter type) (same_holds s) tt
+    other_held k f before (NamedType type) rest n l = ok_held 0 s s (NamedType type) (same_holds s) tt
+    other_held k f before (Filled next) rest n l = ok_held 0 s s (Filled next) (same_holds s) tt
+    other_held k f before Statement rest n l = ok_held 0 s s Statement (same_holds s) tt
+
     pub behind_held : (k : Kind) (f : Frame) (before : List Part) (part : Part) (rest : SyntaxRow) → PartsAreApart before
         → PartIsApart part → GivesHeld 0 s (behind k f before part rest s)
     behind_held k f before (Value o) rest h l = initialised_held k f before (Value o) h l
     behind_held k f before (Braced count) rest h l = initialised_held k f before (Braced count) h l
-    behind_held k f before (Declarator steps) rest h l = declared_held k f before steps rest l
-    behind_held k f before (Enumerator x value) rest h l = enumerated_held x (enumerator_value before value)
-    behind_held k f before (Members members) rest h l =
-        ok_held 0 s (with_members f before (Members members) s) (Members members)
-        (complete_holds (suc (length before) == f.braces) f.tag (members_in (before ++ Members members ∷ []))) tt
-    behind_held k f before (CaseLabel word) rest h l = unless_held 0 _ s s (CaseLabel word) (same_holds s) tt
-    behind_held k f before DefaultLabel rest h l = unless_held 0 _ s s DefaultLabel (same_holds s) tt
-    behind_held k f before (Object type steps last role) rest h l = ok_held 0 s s (Object type steps last role) (same_holds s) l
-    behind_held k f before (Parameter type) rest h l = ok_held 0 s s (Parameter type) (same_holds s) tt
-    behind_held k f before (NamedType type) rest h l = ok_held 0 s s (NamedType type) (same_holds s) tt
-    behind_held k f before (Filled next) rest h l = ok_held 0 s s (Filled next) (same_holds s) tt
-    behind_held k f before Statement rest h l = ok_held 0 s s Statement (same_holds s) tt
+    behind_held k f before part rest h l = other_held k f before part rest refl l
 
   -- THE RECURSION
 

@@ -5,6 +5,9 @@ pub mod Entries
 pub mod Symbols
 pub mod Full
 pub mod Texts
-pub mod Files
 pub mod Closed
 pub mod Holding
+pub mod Reclosing
+pub mod Declared
+pub mod Objects
+pub mod Files

@@ -41,10 +41,16 @@ TextsAreTyped =
     (items : SyntaxRow) (marks : List (List ℕ)) (t : Typing) → typed_file items marks ≡ Ok t
     → RowTextsAreWhole (typed_row t.types t.means 0 items)
 
--- So the first contents of a typed module are sound, where its objects are whole, its texts have bytes and
--- its names have symbols.
+-- In the end, what is declared with an initialiser has a complete type.
+abbrev pub ObjectsAreComplete : Type 0
+ObjectsAreComplete =
+    (items : SyntaxRow) (marks : List (List ℕ)) (t : Typing) → typed_file items marks ≡ Ok t
+    → RowIsWhole t.tags false (typed_row t.types t.means 0 items)
+
+-- So the first contents of a typed module are sound, where its objects have the types that their names
+-- have first, its texts have bytes and its names have symbols.
 abbrev pub FirstsAreSound : Type 0
 FirstsAreSound =
-    (m : Module) → IsTyped m → RowIsWhole (source_of m).tags false (source_of m).items → DeclarationsAgree (source_of m)
+    (m : Module) → IsTyped m → DeclarationsAgree (source_of m)
     → row_has_bytes (row_of m.tree.items) ≡ true → row_is_found (setting_of (source_of m)) (source_of m).items ≡ true
     → firsts_are_sound (setting_of (source_of m)) (data_symbols (symbols (source_of m))) ≡ true

@@ -1,6 +1,6 @@
 // Laws of the definitions in `specs/`. Each function does nothing; its contract is the law.
 ghost use Rattle.p9_firsts.specs.Typedefs.{TypedefsHaveLengths};
-ghost use Rattle.p9_firsts.specs.Laws.{BodiesHaveMembers, ContentsAreSound, FirstsAreSound, TextsAreTyped, WritesAreSound};
+ghost use Rattle.p9_firsts.specs.Laws.{BodiesHaveMembers, ContentsAreSound, FirstsAreSound, ObjectsAreComplete, TextsAreTyped, WritesAreSound};
 
 /// What an initialiser writes first into an object of a complete type lies inside it: a number for an integer
 /// or a null pointer, an address with a symbol for a pointer, or the bytes of a text.
@@ -34,8 +34,14 @@ pub fn typedefs_have_lengths()
     ensures { TypedefsHaveLengths }
 {}
 
-/// The first contents of a typed module are as the law of typed trees asks, where its objects are whole, its
-/// texts have bytes and its names have symbols.
+/// In the end, each object that is declared with an initialiser has a complete type.
+#[tactic(auto, using(crate::proofs::Objects::objects_are_complete))]
+pub fn objects_are_complete()
+    ensures { ObjectsAreComplete }
+{}
+
+/// The first contents of a typed module are as the law of typed trees asks, where its objects have the types
+/// that their names have first, its texts have bytes and its names have symbols.
 #[tactic(auto, using(crate::proofs::Files::firsts_are_sound))]
 pub fn firsts_are_sound()
     ensures { FirstsAreSound }
