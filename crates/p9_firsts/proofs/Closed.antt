@@ -1,26 +1,25 @@
 -- No name in scope stands for the type of an array without a length.
-use Rattle.std.proofs.Common.{◌≡◌, ℕ, zero, suc, ◌+◌, ◌==◌, ◌&&◌, ◌||◌, Bool, true, false, not, if◌then◌else◌, List, [], ◌∷◌, ◌++◌, map, length, reverse, slice_get, slice_set, unwrap_or, Option, Some, None, Result, Ok, Err, refl, sym, ap, subst, ◌∙◌}
+use Rattle.std.proofs.Common.{◌≡◌, ℕ, zero, suc, ◌+◌, ◌==◌, ◌&&◌, ◌||◌, Bool, true, false, not, if◌then◌else◌, List, [], ◌∷◌, ◌++◌, length, reverse, slice_get, slice_set, unwrap_or, Option, Some, None, Result, Ok, Err, refl, sym, ap, subst, ◌∙◌}
 use Rattle.std.specs.List.{list_all}
-use Rattle.std.proofs.lemmas.Grind.{reverse_onto}
 use Rattle.p9_lang.specs.declared.tree.Kind.{Kind}
 use Rattle.p9_lang.specs.declared.tree.Kind.TheVariants as kind
 use Rattle.p9_lang.specs.declared.tree.EntryBy.{EntryBy}
 use Rattle.p9_lang.specs.Names.{is_nameless, same_name}
 use Rattle.p9_lang.specs.Trees.{node, none, more, Syntax, SyntaxRow}
-use Rattle.p9_lang.specs.Types.{TypeTree, Void, Char, UChar, Short, UShort, Int, UInt, Long, ULong, Pointer, Array, Function, Tagged, Meant, Nothing, Outer, Static, Auto, EnumValue, TypeName, Tags, MemberTree}
-use Rattle.p9_lang.specs.Layout.{is_complete, is_within_limit}
+use Rattle.p9_lang.specs.Types.{TypeTree, Void, Char, UChar, Short, UShort, Int, UInt, Long, ULong, Pointer, Array, Function, Meant, Nothing, Outer, Static, Auto, EnumValue, TypeName, Tags, MemberTree}
+use Rattle.p9_lang.specs.Layout.{is_complete}
 use Rattle.p9_lang.specs.Conversions.{is_array, is_function, is_structure}
 use Rattle.p9_lang.specs.Rules.{Rule, Malformed, Incomplete, BadOperands, BadConstant, Undeclared, Redeclared, Broken, at_node, unless, unless_rules, breaks_if, and_then}
 use Rattle.p9_lang.specs.Constants.{Operand, Constant, NotConstant, Undefined, Null}
 use Rattle.p9_lang.specs.Constants as constants
 use Rattle.p9_lang.specs.Expressions.{Verdict, verdict}
-use Rattle.p9_lang.specs.Scopes.{Known, Declared, Keyword, Enum, TagName, Tagging, new_tag, known_tag, tag_from, tagged_as, with_node, next_node, close_level, close_block, in_level, in_levels, or_else, innermost, around, declare}
-use Rattle.p9_lang.specs.Declarators.{Said, said_type, signed_or_not, Step, Shape, Names, Keeps, Points, Sized, Unsized, Takes, Head, Words, Named, Structure, Enumeration, head_of, Storage, storage_of, is_typedef, is_static, LengthBy, ByNothing, ByBraces, ByText, ByCaller, gives_length, array_rules, word_of, NameNode, name_of, own_list, Declaring, closed, closed_from, shaped, broken_at, makes_no_type, adjusted, naming_rules, repeat_rules, type_rules}
+use Rattle.p9_lang.specs.Scopes.{Known, Declared, Keyword, Enum, TagName, Tagging, new_tag, known_tag, tag_from, tagged_as, with_node, next_node, close_level, close_block, in_level, in_levels, or_else, innermost, around}
+use Rattle.p9_lang.specs.Declarators.{Said, said_type, signed_or_not, Step, Shape, Names, Keeps, Points, Sized, Unsized, Takes, Head, Words, Named, Structure, Enumeration, head_of, Storage, storage_of, is_typedef, is_static, LengthBy, ByNothing, array_rules, word_of, NameNode, name_of, own_list, Declaring, closed, closed_from, shaped, broken_at, makes_no_type, adjusted, naming_rules, repeat_rules, type_rules}
 use Rattle.p9_lang.specs.Parts.{Role, EntryOf, ParameterOf, Plain, Context, Part, Value, Declarator, Object, Members, Enumerator, Parameter, NamedType, Braced, Filled, CaseLabel, DefaultLabel, Statement, Frame, Judged, kind_at, members_in, Follows, NoInitialiser, follows, length_by, has_initialiser, last_object, or_object, object_type, inner_steps, name_in}
 use Rattle.p9_lang.specs.Opening.{opened, context, of_head, of_type_name}
 use Rattle.p9_lang.specs.Entries.{is_index_next}
-use Rattle.p9_lang.specs.Declaring.{broken_rules, last_node, behind, declared, declare_object, declare_as, declared_meaning, initialiser_role, declare_member, declare_parameter, declared_parameter, parameter_meaning, close_type, object_declaring, function_declaring, with_body_open, open_body, names_of_list, enumerated, enumerator_value, constant_meaning, complete_if, with_members, with_length_given, with_given_length, named_with, length_rules, declared_before, given_length, retyped, unless_broken, initialised}
-use Rattle.p9_lang.specs.Typing.{has, typeless, stepped, step_at, judged_brackets, judged_name, judged_text, judged_decl_name, judged_enumerator, judged_entry, judged_as, judged_expression, judged, judge, judge_parts, role_rules, is_filled_by_text, is_block_static, is_whole, text_type, operands_of}
+use Rattle.p9_lang.specs.Declaring.{broken_rules, last_node, behind, declared, declare_object, declare_as, declared_meaning, initialiser_role, declare_member, declare_parameter, declared_parameter, parameter_meaning, close_type, object_declaring, function_declaring, with_body_open, names_of_list, enumerated, enumerator_value, constant_meaning, complete_if, with_members, with_length_given, with_given_length, named_with, given_length, retyped, initialised}
+use Rattle.p9_lang.specs.Typing.{has, judged_brackets, judged_name, judged_text, judged_decl_name, judged_enumerator, judged_entry, judged_as, judged_expression, judged, judge, judge_parts, role_rules, is_filled_by_text, is_block_static, is_whole, text_type, operands_of}
 use Rattle.p9_lang.specs.declared.tree.SpecWord.{SpecWord}
 use Rattle.p9_lang.specs.declared.tree.SpecWord.TheVariants as word
 use Rattle.p9_lang.specs.Declarators.{head_from, nothing_said}

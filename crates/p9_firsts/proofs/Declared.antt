@@ -1,20 +1,19 @@
 -- The declared objects of a declaration: each name with an initialiser behind it has a complete type,
 -- and keeps it while the rest of the declaration is typed.
-use Rattle.std.proofs.Common.{◌≡◌, ◌<◌, ◌≤◌, ◌⊎◌, inl, inr, ℕ, zero, suc, ◌+◌, ◌&&◌, ◌||◌, Bool, true, false, not, if◌then◌else◌, List, [], ◌∷◌, ◌++◌, map, length, slice_get, Option, Some, None, Result, Ok, Err, refl, sym, ap, subst, ◌∙◌, arith}
-use Rattle.std.proofs.lemmas.List.{length-set}
+use Rattle.std.proofs.Common.{◌≡◌, ◌<◌, ◌≤◌, ◌⊎◌, inl, inr, ℕ, zero, ◌+◌, ◌&&◌, Bool, true, false, not, if◌then◌else◌, List, [], ◌∷◌, ◌++◌, map, length, slice_get, Option, Some, None, Result, Ok, refl, sym, ap, subst, ◌∙◌, arith}
 use Rattle.p9_lang.specs.declared.tree.Kind.{Kind}
 use Rattle.p9_lang.specs.declared.tree.Kind.TheVariants as kind
-use Rattle.p9_lang.specs.Trees.{node, none, more, Syntax, SyntaxRow, nodes_of, nodes_of_row}
-use Rattle.p9_lang.specs.Types.{TypeTree, Void, Array, Meant, Nothing, Static, Tags}
+use Rattle.p9_lang.specs.Trees.{node, none, more, Syntax, SyntaxRow, nodes_of}
+use Rattle.p9_lang.specs.Types.{TypeTree, Void, Array, Meant, Nothing, Tags}
 use Rattle.p9_lang.specs.Layout.{has_layout, is_complete}
 use Rattle.p9_lang.specs.Conversions.{is_function}
 use Rattle.p9_lang.specs.Constants.{NotConstant}
 use Rattle.p9_lang.specs.Rules.{Rule, BadOperands, Misplaced, breaks_if, Broken, and_then, unless}
 use Rattle.p9_lang.specs.Scopes.{Known, with_node, next_node, in_level, innermost, around}
 use Rattle.p9_lang.specs.Declarators.{Step, LengthBy, ByNothing, closed, with_length, NameNode, name_of, is_typedef, Declaring, naming_rules, repeat_rules, type_rules, function_rules, object_rules}
-use Rattle.p9_lang.specs.Parts.{Role, Context, Part, Value, Declarator, Object, Members, Enumerator, Parameter, NamedType, Braced, Filled, CaseLabel, DefaultLabel, Statement, Frame, Judged, is_declarator, kind_at, Follows, NoInitialiser, Expression, follows, follows_kind, length_by, has_initialiser, last_object, or_object, name_in}
+use Rattle.p9_lang.specs.Parts.{Role, Context, Part, Value, Declarator, Object, Braced, Frame, is_declarator, kind_at, NoInitialiser, Expression, follows, follows_kind, length_by, has_initialiser, last_object, or_object, name_in}
 use Rattle.p9_lang.specs.Opening.{opened, context}
-use Rattle.p9_lang.specs.Declaring.{broken_rules, last_node, behind, declare_object, declare_as, initialiser_role, object_declaring, with_length_given, with_given_length, named_with, length_rules, declared_before, given_length, retyped, initialised, unless_broken}
+use Rattle.p9_lang.specs.Declaring.{broken_rules, last_node, behind, declare_object, declare_as, initialiser_role, object_declaring, with_length_given, named_with, length_rules, declared_before, given_length, retyped}
 use Rattle.p9_lang.specs.Typing.{has, judged, judged_brackets, judge, judge_parts, role_rules, operand, is_filled_by_text, text_type}
 use Rattle.p9_lang.specs.Symbols.{name_label, is_declaration}
 use Rattle.p9_lang.specs.Modules.{typed, label_of}
@@ -22,10 +21,10 @@ use Rattle.p9_lang.proofs.Growing.{Grows}
 use Rattle.p9_lang.proofs.Counting.{then_of, unless_of}
 use Rattle.p9_sound.proofs.Labels.{with_rules_is}
 use Rattle.p9_sound.proofs.Operands.{complete_stays}
-use Rattle.p9_sound.proofs.NamesOf.{NameIn, tree_name}
+use Rattle.p9_sound.proofs.NamesOf.{tree_name}
 use Rattle.p9_firsts.specs.Typedefs.{HasItsLength}
 use Rattle.p9_firsts.proofs.Closed.{first_empty, last_empty, closed_length, named_none}
-use Rattle.p9_firsts.proofs.Holding.{Holds, then_holds, IsFresh, PartIsApart, StepsApart, PartsAreApart, ObjectIsApart, PartHolds, is_initialiser, named_is, given_holds, other_held, judge_held, behind_held, parts_held}
+use Rattle.p9_firsts.proofs.Holding.{Holds, IsFresh, PartIsApart, StepsApart, PartsAreApart, ObjectIsApart, is_initialiser, named_is, given_holds, other_held, judge_held}
 use Rattle.p9_firsts.proofs.Reclosing.{name_type, with_length_name, LacksLength, recloses, object_complete}
 
 -- ONE NUMBER, and none
@@ -46,7 +45,7 @@ steps_nowhere : (steps : List Step) → StepsApart Nowhere steps
 steps_nowhere [] = tt
 steps_nowhere (step ∷ steps) = (λ p. p, steps_nowhere steps)
 
-part_nowhere : (part : Part) → PartIsApart Nowhere part
+pub part_nowhere : (part : Part) → PartIsApart Nowhere part
 part_nowhere (Declarator steps) = steps_nowhere steps
 part_nowhere (Object type steps last role) = steps_nowhere steps
 part_nowhere _ = tt
@@ -113,7 +112,7 @@ node_declares (kind.Params inner void_word) f parts s r d e = is_declared_part [
 node_declares kind.DeclParens f parts s r d e = is_declared_part [] _ s r e
 node_declares _ f parts s r d e = cc
 
-tree_node : (k : Kind) (at : ℕ) (parts : SyntaxRow) (c : Context) (s : Known) (r : Part × Known) → judge (node k at parts) c s ≡ Ok r
+pub tree_node : (k : Kind) (at : ℕ) (parts : SyntaxRow) (c : Context) (s : Known) (r : Part × Known) → judge (node k at parts) c s ≡ Ok r
     → (x : List Part × Known) × (judge_parts k (opened k c s).0 [] parts (opened k c s).1 ≡ Ok x) × (judged k (opened k c s).0 x.0 x.1 ≡ Ok r)
 tree_node k at parts c s r e =
     let z = with_rules_is _ (role_rules c.role k) (and_then (judge_parts k (opened k c s).0 [] parts (opened k c s).1) _) r e in

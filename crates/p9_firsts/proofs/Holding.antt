@@ -1,5 +1,5 @@
 -- The types of nodes stay at all numbers but those of new nodes and of steps that wait.
-use Rattle.std.proofs.Common.{◌≡◌, ◌<◌, ◌≤◌, ℕ, zero, suc, ◌+◌, ◌-◌, ◌==◌, Bool, true, false, if◌then◌else◌, List, [], ◌∷◌, ◌++◌, map, length, length-append, reverse, slice_get, slice_set, Option, Some, None, Result, Ok, Err, refl, sym, ap, subst, ◌∙◌, arith}
+use Rattle.std.proofs.Common.{◌≡◌, ◌<◌, ◌≤◌, ℕ, zero, suc, ◌+◌, ◌==◌, Bool, true, false, if◌then◌else◌, List, [], ◌∷◌, ◌++◌, map, length, length-append, reverse, slice_get, slice_set, Option, Some, None, Result, Ok, Err, refl, sym, ap, subst, ◌∙◌, arith}
 use Rattle.std.specs.List.{list_all}
 use Rattle.std.proofs.lemmas.List.{length-set}
 use Rattle.std.proofs.lemmas.Grind.{reverse_onto}
@@ -17,8 +17,8 @@ use Rattle.p9_lang.specs.Declarators.{Step, Shape, Names, Keeps, Points, Sized, 
 use Rattle.p9_lang.specs.Parts.{Role, EntryOf, Context, Part, Value, Declarator, Object, Members, Enumerator, Parameter, NamedType, Braced, Filled, CaseLabel, DefaultLabel, Statement, Plain, Frame, Judged, kind_at, members_in, follows, length_by, last_object, or_object, inner_steps, name_in, object_names, object_type}
 use Rattle.p9_lang.specs.Opening.{opened, context, of_head}
 use Rattle.p9_lang.specs.Entries.{is_index_next}
-use Rattle.p9_lang.specs.Declaring.{broken_rules, last_node, behind, declared, declare_object, declare_as, declared_meaning, initialiser_role, declare_member, member_rules, names_in_braces, declare_parameter, declared_parameter, parameter_rules, parameter_meaning, close_type, object_declaring, function_declaring, with_body_open, open_body, parameter_count, enumerated, enumerator_value, constant_meaning, complete_if, with_members, with_length_given, with_given_length, named_with, length_rules, declared_before, given_length, retyped, unless_broken, initialised}
-use Rattle.p9_lang.specs.Typing.{has, typeless, stepped, step_at, judged_brackets, judged_name, judged_text, judged_decl_name, judged_enumerator, judged_entry, judged_as, judged_expression, judged, judge, judge_parts, role_rules, is_filled_by_text, is_block_static, is_whole, text_type, operands_of}
+use Rattle.p9_lang.specs.Declaring.{broken_rules, last_node, behind, declared, declare_object, declare_as, initialiser_role, declare_member, member_rules, names_in_braces, declare_parameter, declared_parameter, parameter_rules, object_declaring, function_declaring, with_body_open, open_body, parameter_count, enumerated, enumerator_value, complete_if, with_members, with_length_given, with_given_length, named_with, length_rules, declared_before, given_length, retyped, initialised}
+use Rattle.p9_lang.specs.Typing.{has, stepped, step_at, judged_brackets, judged_name, judged_text, judged_decl_name, judged_enumerator, judged_entry, judged_as, judged_expression, judged, judge, judge_parts, role_rules, is_filled_by_text, is_block_static, is_whole, text_type, operands_of}
 use Rattle.p9_lang.proofs.Counting.{then_of, unless_of}
 use Rattle.p9_lang.proofs.Growing.{Grows, stays, then_grows, appended_grows, body_grows}
 use Rattle.p9_sound.proofs.Labels.{with_rules_is}

@@ -1,10 +1,10 @@
 -- In the end each declared object with an initialiser has a complete type.
-use Rattle.std.proofs.Common.{◌≡◌, ◌<◌, ◌≤◌, ℕ, zero, suc, ◌+◌, ◌&&◌, Bool, true, false, if◌then◌else◌, List, [], ◌∷◌, ◌++◌, length, slice_get, unwrap_or, Option, Some, None, Result, Ok, Err, refl, sym, ap, subst, ◌∙◌, arith}
+use Rattle.std.proofs.Common.{◌≡◌, ◌<◌, ◌≤◌, ℕ, ◌+◌, Bool, true, false, if◌then◌else◌, List, [], ◌∷◌, ◌++◌, length, slice_get, unwrap_or, Some, None, Ok, refl, sym, ap, subst, ◌∙◌, arith}
 use Rattle.std.proofs.lemmas.Option.{slice_get_within}
 use Rattle.p9_lang.specs.declared.tree.Kind.{Kind}
 use Rattle.p9_lang.specs.declared.tree.Kind.TheVariants as kind
 use Rattle.p9_lang.specs.Trees.{node, none, more, Syntax, SyntaxRow, nodes_of, nodes_of_row}
-use Rattle.p9_lang.specs.Types.{TypeTree, Void, Nothing, Meant, Tags}
+use Rattle.p9_lang.specs.Types.{TypeTree, Void, Nothing, Meant}
 use Rattle.p9_lang.specs.Layout.{is_complete}
 use Rattle.p9_lang.specs.Scopes.{Known, known_first}
 use Rattle.p9_lang.specs.Parts.{Context, file_context, Part, Statement, Frame, is_declarator, kind_at}
@@ -13,8 +13,8 @@ use Rattle.p9_lang.specs.Declaring.{behind}
 use Rattle.p9_lang.specs.Typing.{judged, judge, judge_parts, judge_items}
 use Rattle.p9_lang.specs.Files.{Typing, typing_of, names_with_bodies}
 use Rattle.p9_lang.specs.Symbols.{kind_of_node, name_label, initialiser, is_declaration}
-use Rattle.p9_lang.specs.Modules.{typed, typed_row, label_of, Typed}
-use Rattle.p9_lang.proofs.Growing.{Grows, stays, then_grows}
+use Rattle.p9_lang.specs.Modules.{typed, typed_row, Typed}
+use Rattle.p9_lang.proofs.Growing.{Grows, then_grows}
 use Rattle.p9_lang.proofs.Counting.{then_of}
 use Rattle.p9_sound.specs.Labels.{AreKnown}
 use Rattle.p9_sound.proofs.Numbering.{kinds_after}
@@ -154,11 +154,11 @@ mutual
       (λ n lo hi apart. agree n (from_later (length s.types) (length y.0.1.types) n (nodes_of t) upto lo) hi apart)
       (λ d n lo hi. full d n (from_later (length s.types) (length y.0.1.types) n (nodes_of t) upto lo) hi) in (
         (λ z.
-        let d = left_true (is_declaration k) (is_declarator (kind_of_node (typed final.types final.means (length s.types) t))) z in
-        own_whole final k f before t ts s r (length s.types + nodes_of t) d
-        (ap is_declarator (sym (kind_typed final.types final.means (length s.types) t))
-        ∙ right_true (is_declaration k) (is_declarator (kind_of_node (typed final.types final.means (length s.types) t))) z)
-        base (h.means ∙ sym h.types) e g (full d)),
+            let d = left_true (is_declaration k) (is_declarator (kind_of_node (typed final.types final.means (length s.types) t))) z in
+            own_whole final k f before t ts s r (length s.types + nodes_of t) d
+            (ap is_declarator (sym (kind_typed final.types final.means (length s.types) t))
+            ∙ right_true (is_declaration k) (is_declarator (kind_of_node (typed final.types final.means (length s.types) t))) z)
+            base (h.means ∙ sym h.types) e g (full d)),
         (first, subst (λ i. RowIsWhole final.tags (is_declaration k) (typed_row final.types final.means i ts)) upto others),
       )
 

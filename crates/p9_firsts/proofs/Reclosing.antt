@@ -1,16 +1,15 @@
 -- A declared name's type: what its declarator makes last; and where its length is given, complete.
-use Rattle.std.proofs.Common.{◌≡◌, ◌<◌, ◌⊎◌, inl, inr, ℕ, zero, suc, ◌&&◌, ◌||◌, Bool, true, false, not, List, [], ◌∷◌, ◌++◌, map, length, reverse, slice_get, slice_set, Option, Some, None, Result, Ok, Err, refl, sym, ap, subst, ◌∙◌, arith}
+use Rattle.std.proofs.Common.{◌≡◌, ◌<◌, ◌⊎◌, inl, inr, ℕ, zero, suc, ◌&&◌, ◌||◌, Bool, true, false, not, List, [], ◌∷◌, ◌++◌, map, length, reverse, slice_get, slice_set, Option, Some, None, Ok, refl, sym, ap, subst, ◌∙◌, arith}
 use Rattle.std.specs.List.{list_all}
 use Rattle.std.proofs.lemmas.List.{length-set}
 use Rattle.std.proofs.lemmas.Grind.{reverse_onto}
-use Rattle.p9_lang.specs.Types.{TypeTree, Void, Char, UChar, Short, UShort, Int, UInt, Long, ULong, Pointer, Array, Function, Tagged, TypeRow, Tags}
+use Rattle.p9_lang.specs.Types.{TypeTree, Pointer, Array, Function, Tags}
 use Rattle.p9_lang.specs.Layout.{Extent, on_some, repeated, layout, has_layout, is_complete, is_within_limit}
 use Rattle.p9_lang.specs.Conversions.{is_array, is_function, is_structure}
-use Rattle.p9_lang.specs.Rules.{Rule, Incomplete, BadOperands, BadConstant, Broken, breaks_if, unless_rules, and_then}
+use Rattle.p9_lang.specs.Rules.{Rule, Incomplete, BadOperands, BadConstant, breaks_if, unless_rules}
 use Rattle.p9_lang.specs.Constants.{Constant, NotConstant, Undefined, Null}
 use Rattle.p9_lang.specs.Constants as constants
-use Rattle.p9_lang.specs.Scopes.{Declared}
-use Rattle.p9_lang.specs.Declarators.{Step, Shape, Names, Keeps, Points, Sized, Unsized, Takes, LengthBy, ByNothing, gives_length, array_rules, word_of, NameNode, name_of, closed, closed_from, shaped, broken_at, makes_no_type, with_length, object_rules, sized_rules}
+use Rattle.p9_lang.specs.Declarators.{Step, Shape, Names, Keeps, Points, Sized, Unsized, Takes, LengthBy, ByNothing, gives_length, array_rules, NameNode, name_of, closed, closed_from, shaped, broken_at, makes_no_type, with_length, object_rules}
 use Rattle.p9_lang.proofs.Counting.{then_of}
 use Rattle.p9_firsts.specs.Typedefs.{HasItsLength}
 use Rattle.p9_firsts.proofs.Closed.{first_empty, last_empty, unless_made, sized_length, step_made}
