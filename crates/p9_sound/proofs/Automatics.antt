@@ -80,7 +80,7 @@ mutual
 
 -- ONE OBJECT that is declared
 
-closed_count : (tags : Tags) (by : LengthBy) (type : TypeTree) (steps : List Step) (types : List TypeTree) (made : TypeTree × List TypeTree)
+pub closed_count : (tags : Tags) (by : LengthBy) (type : TypeTree) (steps : List Step) (types : List TypeTree) (made : TypeTree × List TypeTree)
     → closed_from tags by type steps types ≡ Ok made → length made.1 ≡ length types
 closed_count tags by type [] types made e = let z : (type, types) ≡ made = cc in ap (λ m. length m.1) (sym z)
 closed_count tags by type (step ∷ steps) types made e =
@@ -88,7 +88,7 @@ closed_count tags by type (step ∷ steps) types made e =
     (λ made. closed_from tags by made steps (slice_set types step.number made)) made e in
     closed_count tags by r.0 steps (slice_set types step.number r.0) made r.2 ∙ length-set types step.number r.0
 
-named_made : (last : ℕ) (rules : Option TypeTree → List Rule) (m : Result (TypeTree × List TypeTree) Broken) (made : TypeTree × List TypeTree)
+pub named_made : (last : ℕ) (rules : Option TypeTree → List Rule) (m : Result (TypeTree × List TypeTree) Broken) (made : TypeTree × List TypeTree)
     → named_with last rules m ≡ Ok made → m ≡ Ok made
 named_made last rules (Ok x) made e = ap (λ y. Ok y) (unless_of (broken_rules last (rules (Some x.0))) x made e)
 named_made last rules (Err b) made e = cc
@@ -127,7 +127,7 @@ meaning_by false true static type name old autos h = refl
 meaning_by false false true type name old autos h = subst (λ ns. AreNumbered autos ns autos) (sym h) refl
 meaning_by false false false type name old autos h = (refl, omega arith)
 
-get_set : {A : Type 0} (xs : List A) (n : ℕ) (x : A) → n < length xs → slice_get (slice_set xs n x) n ≡ Some x
+pub get_set : {A : Type 0} (xs : List A) (n : ℕ) (x : A) → n < length xs → slice_get (slice_set xs n x) n ≡ Some x
 get_set [] n x h = absurd (omega (arith, h))
 get_set (y ∷ ys) zero x h = refl
 get_set (y ∷ ys) (suc n) x h = get_set ys n x (omega (arith, h))
@@ -150,7 +150,7 @@ record DeclRow (ts : SyntaxRow) (s : Known) (r : Known) : Type 0 where
   steady : Steady (nodes_of_row ts) s r
   numbered : AreNumbered s.autos (numbers (automatics_in (typed_row r.types r.means (next_node s) ts))) r.autos
 
-kind_typed : (types : List TypeTree) (means : List Meant) (first : ℕ) (t : Syntax) → kind_of_node (typed types means first t) ≡ kind_at t
+pub kind_typed : (types : List TypeTree) (means : List Meant) (first : ℕ) (t : Syntax) → kind_of_node (typed types means first t) ≡ kind_at t
 kind_typed types means first (node k at parts) = refl
 
 -- the automatic of one part, by whether it is a declarator
@@ -192,7 +192,7 @@ given_then base object part rules s q e =
     let z = unless_of (broken_rules (last_node x.0) (rules x.0)) (part, x.0) q x.2 in
     subst (λ y. Calm s y.1) z (given_calm base object part s x.0 x.1)
 
-tree_suits : (t : Syntax) (c : Context) (s : Known) (r : Part × Known) → judge t c s ≡ Ok r → Suits (kind_at t) r.0
+pub tree_suits : (t : Syntax) (c : Context) (s : Known) (r : Part × Known) → judge t c s ≡ Ok r → Suits (kind_at t) r.0
 tree_suits (node k at parts) c s r e =
     let z = with_rules_is _ (role_rules c.role k) (and_then (judge_parts k (opened k c s).0 [] parts (opened k c s).1) _) r e in
     let x = then_of (judge_parts k (opened k c s).0 [] parts (opened k c s).1) _ r z in
@@ -298,7 +298,7 @@ decl_row k f before (more t ts) s r d h v e =
 
 -- THE SAME NUMBERS, where meanings are the same
 
-abbrev Agree : (means others : List Meant) → ℕ → Type 0
+abbrev pub Agree : (means others : List Meant) → ℕ → Type 0
 Agree means others bound = (n : ℕ) → n < bound → slice_get means n ≡ slice_get others n
 
 abbrev label_numbers : Option Label → List ℕ
@@ -354,7 +354,7 @@ declared_same types others means news bound first (kind.Declaration spec inits) 
 declared_same types others means news bound first k label other ts a h = refl
 
 mutual
-  within_same : (types others : List TypeTree) (means news : List Meant) (bound first : ℕ) (t : Syntax) → Agree means news bound → first + nodes_of t ≤ suc bound
+  pub within_same : (types others : List TypeTree) (means news : List Meant) (bound first : ℕ) (t : Syntax) → Agree means news bound → first + nodes_of t ≤ suc bound
       → numbers (automatics_within (typed types means first t)) ≡ numbers (automatics_within (typed others news first t))
   within_same types others means news bound first (node k at parts) a h =
       let label = label_of types means (first + nodes_of_row parts) at in

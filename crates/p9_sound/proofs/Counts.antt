@@ -258,7 +258,16 @@ if_calm : (s : Known) (b : Bool) (rules : List Rule) (part : Part) (q : Part × 
 if_calm s true rules part q e = calm_of s s part (Ok (part, s)) q (calm s) refl e
 if_calm s false rules part q e = unless_calm s rules part q e
 
-initialised_calm : (k : Kind) (f : Frame) (before : List Part) (part : Part) (s : Known) (q : Part × Known) → declares k ≡ false → initialised k f before part s ≡ Ok q → Calm s q.1
+-- of a declaration an initialiser may give a length
+abbrev pub initialises : Kind → Bool
+initialises (kind.Declaration spec inits) = true
+initialises k = false
+
+declares_initialises : (k : Kind) → declares k ≡ false → initialises k ≡ false
+declares_initialises (kind.Declaration spec inits) h = cc
+declares_initialises k h = refl
+
+initialised_calm : (k : Kind) (f : Frame) (before : List Part) (part : Part) (s : Known) (q : Part × Known) → initialises k ≡ false → initialised k f before part s ≡ Ok q → Calm s q.1
 initialised_calm (kind.Declaration spec inits) f before part s q h e = cc
 initialised_calm (kind.Entry by equals) f before part s q h e =
     if_calm s (is_index_next by before) (initialiser_rules s.tags (entry_role s.tags f.context.role by before) part) part q e
@@ -338,7 +347,7 @@ declared_autos k f before steps rest s q h e =
     let c = calm_of s s (Declarator steps) (Ok (Declarator steps, s)) q (calm s) refl e in c.autos
 
 -- that no declarator is closed isn't asked where the part is no declarator
-pub other_calm : (k : Kind) (f : Frame) (before : List Part) (part : Part) (rest : SyntaxRow) (s : Known) (q : Part × Known) → declares k ≡ false → is_declarator_part part ≡ false
+pub other_calm : (k : Kind) (f : Frame) (before : List Part) (part : Part) (rest : SyntaxRow) (s : Known) (q : Part × Known) → initialises k ≡ false → is_declarator_part part ≡ false
     → behind k f before part rest s ≡ Ok q → Calm s q.1
 other_calm k f before (Value o) rest s q h d e = initialised_calm k f before (Value o) s q h e
 other_calm k f before (Braced count) rest s q h d e = initialised_calm k f before (Braced count) s q h e
@@ -358,7 +367,7 @@ other_calm k f before Statement rest s q h d e = calm_of s s Statement (Ok (Stat
 
 other_autos : (k : Kind) (f : Frame) (before : List Part) (part : Part) (rest : SyntaxRow) (s : Known) (q : Part × Known) → declares k ≡ false → is_declarator_part part ≡ false
     → behind k f before part rest s ≡ Ok q → q.1.autos ≡ s.autos
-other_autos k f before part rest s q h d e = let c = other_calm k f before part rest s q h d e in c.autos
+other_autos k f before part rest s q h d e = let c = other_calm k f before part rest s q (declares_initialises k h) d e in c.autos
 
 pub behind_autos : (k : Kind) (f : Frame) (before : List Part) (part : Part) (rest : SyntaxRow) (s : Known) (q : Part × Known) → declares k ≡ false
     → behind k f before part rest s ≡ Ok q → q.1.autos ≡ s.autos
@@ -368,4 +377,4 @@ behind_autos k f before part rest s q h e = other_autos k f before part rest s q
 pub behind_calm : (k : Kind) (f : Frame) (before : List Part) (part : Part) (rest : SyntaxRow) (s : Known) (q : Part × Known) → closes k ≡ false
     → behind k f before part rest s ≡ Ok q → Calm s q.1
 behind_calm k f before (Declarator steps) rest s q h e = declared_calm k f before steps rest s q h e
-behind_calm k f before part rest s q h e = other_calm k f before part rest s q (closes_declares k h) refl e
+behind_calm k f before part rest s q h e = other_calm k f before part rest s q (declares_initialises k (closes_declares k h)) refl e

@@ -11,3 +11,6 @@ pub mod Counts
 pub mod NamesOf
 pub mod Automatics
 pub mod Statements
+pub mod Items
+pub mod Functions
+pub mod Sources

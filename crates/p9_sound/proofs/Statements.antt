@@ -1,7 +1,6 @@
 -- Typed statements are sound, where their expressions are plain and their automatics known.
-use Rattle.std.proofs.Common.{◌≡◌, ℕ, suc, ◌+◌, Bool, true, false, if◌then◌else◌, List, [], ◌∷◌, ◌++◌, length, map, append_assoc, slice_get, Option, Some, None, refl, sym, ap, subst, ◌∙◌}
+use Rattle.std.proofs.Common.{◌≡◌, ℕ, Bool, true, false, if◌then◌else◌, List, [], ◌∷◌, ◌++◌, length, map, append_assoc, slice_get, Option, Some, None, refl, sym, ap, subst, ◌∙◌}
 use Rattle.std.proofs.lemmas.List.{map-append}
-use Rattle.p9_lang.specs.declared.tree.Kind.{Kind}
 use Rattle.p9_lang.specs.declared.tree.Kind.TheVariants as kind
 use Rattle.p9_lang.specs.Trees.{node, none, more}
 use Rattle.p9_lang.specs.Types.{TypeTree, Meant, Nothing, Outer, Static, Auto, EnumValue, TypeName}
@@ -11,7 +10,7 @@ use Rattle.p9_lang.specs.Symbols.{kind_of_node, name_label, initialiser}
 use Rattle.p9_cmean.specs.Declarations.{Automatic, automatic, automatics_in, declared_by, declared_in}
 use Rattle.p9_cmean.specs.Union.{types_within, types_within_row}
 use Rattle.p9_lower.specs.Names.{Setting}
-use Rattle.p9_lower.specs.Premises.{ExpressionIsSound, AutomaticsAreKnown, InitialIsSound, InitialisersAreSound, StatementIsSound, StatementsAreSound, LoopIsSound}
+use Rattle.p9_lower.specs.Premises.{ExpressionIsSound, AutomaticsAreKnown, InitialisersAreSound, StatementIsSound, StatementsAreSound, LoopIsSound}
 use Rattle.p9_sound.specs.Nodes.{TreeIsTyped, RowIsTyped}
 use Rattle.p9_sound.specs.Expressions.{TreeIsPlain, RowIsPlain}
 use Rattle.p9_sound.specs.Automatics.{automatics_within, automatics_of_row, numbers, AreNumbered}

@@ -4,3 +4,6 @@ pub mod Constants
 pub mod Expressions
 pub mod Automatics
 pub mod Statements
+pub mod Items
+pub mod Functions
+pub mod Sources

@@ -4,6 +4,9 @@ ghost use Rattle.p9_sound.specs.Nodes.{NodesAreTyped};
 ghost use Rattle.p9_sound.specs.Constants.{TypedConstantsAreIntegers};
 ghost use Rattle.p9_sound.specs.Automatics.{AutomaticsAreNumbered};
 ghost use Rattle.p9_sound.specs.Statements.{NumberedBlocksAreKnown, TypedStatementsAreSound};
+ghost use Rattle.p9_sound.specs.Items.{CodeItemsAreSound};
+ghost use Rattle.p9_sound.specs.Functions.{FunctionsAreNumbered};
+ghost use Rattle.p9_sound.specs.Sources.{TypedItemsAreSound};
 ghost use Rattle.p9_sound.specs.Expressions.{TypedExpressionsAreSound};
 
 /// Behind a node that is typed, the nodes before it have the types and meanings that they had, but for
@@ -56,4 +59,24 @@ pub fn numbered_blocks_are_known()
 #[tactic(auto, using(crate::proofs::Statements::typed_statements_are_sound))]
 pub fn typed_statements_are_sound()
     ensures { TypedStatementsAreSound }
+{}
+
+/// The functions that a module's symbols name are items of its file.
+#[tactic(auto, using(crate::proofs::Items::code_items_are_sound))]
+pub fn code_items_are_sound()
+    ensures { CodeItemsAreSound }
+{}
+
+/// In a file that is typed, the automatics of each function's block are numbered behind the parameters that
+/// the function's type has.
+#[tactic(auto, using(crate::proofs::Functions::functions_are_numbered))]
+pub fn functions_are_numbered()
+    ensures { FunctionsAreNumbered }
+{}
+
+/// The functions of a typed module are as the law of trees asks, where blocks stand behind declarators and
+/// the expressions are plain.
+#[tactic(auto, using(crate::proofs::Sources::typed_items_are_sound))]
+pub fn typed_items_are_sound()
+    ensures { TypedItemsAreSound }
 {}
