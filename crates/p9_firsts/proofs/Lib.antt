@@ -1,0 +1,13 @@
+pub mod Sizes
+pub mod Parts
+pub mod Fixing
+pub mod Entries
+pub mod Symbols
+pub mod Full
+pub mod Texts
+pub mod Closed
+pub mod Holding
+pub mod Reclosing
+pub mod Declared
+pub mod Objects
+pub mod Files
