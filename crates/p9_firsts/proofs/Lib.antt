@@ -10,4 +10,5 @@ pub mod Holding
 pub mod Reclosing
 pub mod Declared
 pub mod Objects
+pub mod Known
 pub mod Files

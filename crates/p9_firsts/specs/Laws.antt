@@ -2,7 +2,7 @@
 use Rattle.std.specs.Prelude.{◌≡◌, ℕ, true, false, List, Ok}
 use Rattle.p9_lang.specs.declared.module.Module.{Module}
 use Rattle.p9_lang.specs.Trees.{SyntaxRow, row_of}
-use Rattle.p9_lang.specs.Types.{TypeTree}
+use Rattle.p9_lang.specs.Types.{TypeTree, Meant}
 use Rattle.p9_lang.specs.Layout.{size_of, is_complete}
 use Rattle.p9_lang.specs.TagRules.{NoneContainsItself}
 use Rattle.p9_lang.specs.Initialisers.{first_writes}
@@ -12,8 +12,8 @@ use Rattle.p9_lang.specs.Symbols.{symbols}
 use Rattle.p9_tree.specs.Means.{data_symbols}
 use Rattle.p9_lower.specs.Names.{Setting}
 use Rattle.p9_lower.specs.Modules.{setting_of}
-use Rattle.p9_lower.specs.Premises.{first_is_sound, firsts_are_sound}
-use Rattle.p9_firsts.specs.Whole.{BodiesAreFull, texts_have_bytes, row_has_bytes, names_are_found, row_is_found, RowTextsAreWhole, RowIsWhole, DeclarationsAgree}
+use Rattle.p9_lower.specs.Premises.{NameIsKnown, first_is_sound, firsts_are_sound}
+use Rattle.p9_firsts.specs.Whole.{BodiesAreFull, texts_have_bytes, row_has_bytes, meaning_is_found, names_are_found, row_is_found, RowTextsAreWhole, RowIsWhole, DeclarationsAgree}
 
 -- What an initialiser writes first into an object of a complete type lies inside it, and is of the kind
 -- that its type holds.
@@ -46,6 +46,11 @@ abbrev pub ObjectsAreComplete : Type 0
 ObjectsAreComplete =
     (items : SyntaxRow) (marks : List (List ℕ)) (t : Typing) → typed_file items marks ≡ Ok t
     → RowIsWhole t.tags false (typed_row t.types t.means 0 items)
+
+-- A name that the law of trees knows has a symbol.
+abbrev pub KnownNamesAreFound : Type 0
+KnownNamesAreFound =
+    (setting : Setting) (type : TypeTree) (means : Meant) → NameIsKnown setting.symbols type means → meaning_is_found setting means ≡ true
 
 -- So the first contents of a typed module are sound, where its objects have the types that their names
 -- have first, its texts have bytes and its names have symbols.

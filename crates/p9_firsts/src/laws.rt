@@ -1,6 +1,6 @@
 // Laws of the definitions in `specs/`. Each function does nothing; its contract is the law.
 ghost use Rattle.p9_firsts.specs.Typedefs.{TypedefsHaveLengths};
-ghost use Rattle.p9_firsts.specs.Laws.{BodiesHaveMembers, ContentsAreSound, FirstsAreSound, ObjectsAreComplete, TextsAreTyped, WritesAreSound};
+ghost use Rattle.p9_firsts.specs.Laws.{BodiesHaveMembers, ContentsAreSound, FirstsAreSound, KnownNamesAreFound, ObjectsAreComplete, TextsAreTyped, WritesAreSound};
 
 /// What an initialiser writes first into an object of a complete type lies inside it: a number for an integer
 /// or a null pointer, an address with a symbol for a pointer, or the bytes of a text.
@@ -38,6 +38,12 @@ pub fn typedefs_have_lengths()
 #[tactic(auto, using(crate::proofs::Objects::objects_are_complete))]
 pub fn objects_are_complete()
     ensures { ObjectsAreComplete }
+{}
+
+/// A name that the law of typed trees knows has a symbol.
+#[tactic(auto, using(crate::proofs::Known::known_names_are_found))]
+pub fn known_names_are_found()
+    ensures { KnownNamesAreFound }
 {}
 
 /// The first contents of a typed module are as the law of typed trees asks, where its objects have the types

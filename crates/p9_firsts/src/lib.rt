@@ -5,6 +5,6 @@
 mod laws;
 
 pub use laws::{
-    bodies_have_members, contents_are_sound, firsts_are_sound, objects_are_complete,
-    texts_are_typed, typedefs_have_lengths, writes_are_sound,
+    bodies_have_members, contents_are_sound, firsts_are_sound, known_names_are_found,
+    objects_are_complete, texts_are_typed, typedefs_have_lengths, writes_are_sound,
 };
