@@ -2,4 +2,12 @@
 #![tactic(auto)]
 
 #[cfg(test)]
+mod image;
+#[cfg(test)]
+mod lines;
+#[cfg(test)]
+mod pieces;
+#[cfg(test)]
 mod tests;
+#[cfg(test)]
+mod text;

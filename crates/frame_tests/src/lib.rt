@@ -2,4 +2,8 @@
 #![tactic(auto)]
 
 #[cfg(test)]
+mod flow;
+#[cfg(test)]
+mod region;
+#[cfg(test)]
 mod tests;

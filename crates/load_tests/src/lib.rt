@@ -2,4 +2,6 @@
 #![tactic(auto)]
 
 #[cfg(test)]
+mod load;
+#[cfg(test)]
 mod tests;

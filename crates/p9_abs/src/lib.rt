@@ -7,8 +7,6 @@ mod instructions;
 mod laws;
 mod modules;
 mod regions;
-#[cfg(test)]
-mod tests;
 mod weights;
 
 pub use forms::{

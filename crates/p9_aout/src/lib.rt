@@ -3,8 +3,6 @@
 
 mod format;
 mod reader;
-#[cfg(test)]
-mod tests;
 mod writer;
 
 pub use format::{AoutFault, AoutSym, Image};

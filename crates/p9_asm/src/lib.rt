@@ -9,8 +9,6 @@ mod pieces;
 mod shown;
 mod symbols;
 mod tables;
-#[cfg(test)]
-mod tests;
 mod unfinished;
 
 pub use assembler::assemble;

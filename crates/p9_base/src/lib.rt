@@ -10,8 +10,6 @@ mod numbers;
 mod order;
 mod outside;
 mod streams;
-#[cfg(test)]
-mod tests;
 mod words;
 
 pub use adapters::{HostFiles, ReadSource, WriteSink};

@@ -17,8 +17,6 @@ mod pile;
 mod reader;
 mod row;
 mod source;
-#[cfg(test)]
-mod tests;
 mod unit;
 mod uses;
 mod walk;

@@ -4,8 +4,6 @@
 
 mod facts;
 mod names;
-#[cfg(test)]
-mod tests;
 
 pub use facts::{Fact, Facts, symbol_at, symbol_in};
 pub use names::Names;

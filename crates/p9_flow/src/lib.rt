@@ -6,8 +6,6 @@ mod candidates;
 mod columns;
 mod order;
 mod rows;
-#[cfg(test)]
-mod tests;
 
 pub use acts::{falls, jump_of, written_of};
 pub use candidates::register_candidates;

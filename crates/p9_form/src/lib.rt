@@ -7,8 +7,6 @@ mod file;
 mod parse;
 mod reader;
 mod scan;
-#[cfg(test)]
-mod tests;
 mod token;
 
 pub use file::{Declaration, Declarations, File, FileList, First, Operand, Statement, Statements};

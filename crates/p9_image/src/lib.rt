@@ -6,6 +6,3 @@ mod text;
 
 pub use filling::{SymbolAddresses, address};
 pub use text::text_bytes;
-
-#[cfg(test)]
-mod tests;

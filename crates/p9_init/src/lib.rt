@@ -12,6 +12,3 @@ mod writing;
 
 pub use fault::InitFault;
 pub use imaging::image;
-
-#[cfg(test)]
-mod tests;

@@ -5,8 +5,6 @@
 mod ident;
 mod laws;
 mod module;
-#[cfg(test)]
-mod tests;
 mod tree;
 mod types;
 

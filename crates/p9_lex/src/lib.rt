@@ -9,8 +9,6 @@ mod number;
 mod piece;
 mod quoted;
 mod scan;
-#[cfg(test)]
-mod tests;
 mod token;
 
 pub use scan::lex;

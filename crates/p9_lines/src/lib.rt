@@ -12,6 +12,3 @@ mod parts;
 pub use building::{add_entry, add_lines, add_start};
 pub use laws::{way_laws, weight_laws};
 pub use parts::{Access, Setting, Way};
-
-#[cfg(test)]
-mod tests;

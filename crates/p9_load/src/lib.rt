@@ -13,6 +13,3 @@ pub use expansion::{Expansion, expand_modules};
 pub use fault::LoadFault;
 pub use loaded::Loaded;
 pub use loading::load;
-
-#[cfg(test)]
-mod tests;

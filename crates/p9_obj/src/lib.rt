@@ -7,8 +7,6 @@ mod functions;
 mod numbers;
 mod operands;
 mod spelling;
-#[cfg(test)]
-mod tests;
 mod validity;
 mod writer;
 

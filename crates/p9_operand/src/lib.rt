@@ -10,8 +10,6 @@ mod kinds;
 mod operand;
 mod parts;
 mod rule;
-#[cfg(test)]
-mod tests;
 mod values;
 mod words;
 

@@ -1,8 +1,6 @@
 //! The reader of whole files: the one tree of a unit's tokens.
 #![tactic(auto)]
 
-#[cfg(test)]
-mod tests;
 mod unit;
 
 pub use p9_decl::ParseFault;

@@ -11,6 +11,3 @@ mod walking;
 pub use callees::Callees;
 pub use laws::piece_laws;
 pub use walking::{Pieces, program_pieces};
-
-#[cfg(test)]
-mod tests;

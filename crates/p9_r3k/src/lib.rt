@@ -15,6 +15,3 @@ pub use lines::{Line, Lines, Part, Value};
 pub use p9_base::{Asked, Effect, Ending, HaltCause};
 pub use scheduling::delayed_laws;
 pub use uses::use_laws;
-
-#[cfg(test)]
-mod tests;

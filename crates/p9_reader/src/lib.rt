@@ -6,8 +6,6 @@ mod fields;
 mod laws;
 mod progress;
 mod reader;
-#[cfg(test)]
-mod tests;
 mod whole;
 
 pub use faults::ObjFault;

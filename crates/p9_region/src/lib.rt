@@ -11,8 +11,6 @@ mod masks;
 mod points;
 mod ranks;
 mod steps;
-#[cfg(test)]
-mod tests;
 
 pub use costs::cost;
 pub use finding::regions;

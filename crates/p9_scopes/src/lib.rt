@@ -16,8 +16,6 @@ mod tag;
 mod tag_level;
 mod tag_table;
 mod tagging;
-#[cfg(test)]
-mod tests;
 
 pub use declared::Declared;
 pub use known::Known;

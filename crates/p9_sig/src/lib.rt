@@ -4,8 +4,6 @@
 mod fault;
 mod laws;
 mod met;
-#[cfg(test)]
-mod tests;
 mod writer;
 
 pub use fault::SigFault;

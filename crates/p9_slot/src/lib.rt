@@ -7,6 +7,3 @@ mod placing;
 mod scheduling;
 
 pub use scheduling::{Scheduled, schedule};
-
-#[cfg(test)]
-mod tests;

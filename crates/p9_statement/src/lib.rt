@@ -4,8 +4,6 @@
 mod lexemes;
 mod operands;
 mod statements;
-#[cfg(test)]
-mod tests;
 mod words;
 
 pub use lexemes::{Lexeme, lexeme_of};

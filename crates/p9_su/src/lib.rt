@@ -8,6 +8,3 @@ mod shapes;
 pub use moves::{Move, Plan};
 pub use plans::order;
 pub use shapes::{Shape, number};
-
-#[cfg(test)]
-mod tests;

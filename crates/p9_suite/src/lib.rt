@@ -12,8 +12,6 @@ mod put;
 mod report;
 mod source;
 mod stages;
-#[cfg(test)]
-mod tests;
 mod top;
 mod words;
 

@@ -3,8 +3,6 @@
 
 mod kinds;
 mod laws;
-#[cfg(test)]
-mod tests;
 mod words;
 
 pub use kinds::terminal;

@@ -11,6 +11,3 @@ pub use entries::{Entries, Key};
 pub use order::{Routine, routines};
 pub use program::Program;
 pub use weighing::{ExpandFault, instruction_words, text_words};
-
-#[cfg(test)]
-mod tests;

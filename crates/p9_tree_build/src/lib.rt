@@ -6,8 +6,6 @@ mod level;
 mod pile;
 mod row;
 mod scope;
-#[cfg(test)]
-mod tests;
 mod told;
 
 pub use frame::{Body, Frame, Read, closed, opened, single, start_of};

@@ -8,7 +8,5 @@ mod reader;
 mod settling;
 mod stepping;
 mod steps;
-#[cfg(test)]
-mod tests;
 
 pub use reader::{ReadFault, Reader};

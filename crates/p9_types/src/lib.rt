@@ -19,8 +19,6 @@ mod reaching;
 mod same;
 mod sought;
 mod substructure;
-#[cfg(test)]
-mod tests;
 
 pub use converting::{Conv, convert};
 pub use elements::{Elements, array_elements};

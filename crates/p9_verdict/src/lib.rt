@@ -8,8 +8,6 @@ mod binary;
 mod calls;
 mod choosing;
 mod table;
-#[cfg(test)]
-mod tests;
 mod unary;
 
 pub use assigning::assigned_rules;

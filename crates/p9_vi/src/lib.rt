@@ -9,6 +9,3 @@ mod stop;
 pub use machine::Machine;
 pub use simulation::simulate;
 pub use stop::Stop;
-
-#[cfg(test)]
-mod tests;

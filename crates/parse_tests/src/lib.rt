@@ -2,6 +2,8 @@
 #![tactic(auto)]
 
 #[cfg(test)]
+mod parse;
+#[cfg(test)]
 mod phrases;
 #[cfg(test)]
 mod programs;
@@ -9,5 +11,11 @@ mod programs;
 mod refused;
 #[cfg(test)]
 mod support;
+#[cfg(test)]
+mod terminal;
+#[cfg(test)]
+mod tree_build;
+#[cfg(test)]
+mod tree_reader;
 #[cfg(test)]
 mod trees;

@@ -1,0 +1,5 @@
+//! Tests of directives.
+#![tactic(auto)]
+
+#[cfg(test)]
+mod cpp;

@@ -1,0 +1,9 @@
+//! Tests of the machine, its executables, its simulator and the schedule.
+#![tactic(auto)]
+
+#[cfg(test)]
+mod aout;
+#[cfg(test)]
+mod slot;
+#[cfg(test)]
+mod vi;
