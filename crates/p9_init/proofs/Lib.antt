@@ -1,4 +1,3 @@
-mod Arrays
 pub mod Entries
 pub mod Meaning
 pub mod Parts

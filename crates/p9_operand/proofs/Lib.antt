@@ -1,4 +1,3 @@
 mod Operands
 pub mod Leasts
 mod Conversions
-mod TestTags

@@ -13,4 +13,3 @@ mod Reaching
 mod Telling
 mod Steps
 mod Examples
-mod TestTypes

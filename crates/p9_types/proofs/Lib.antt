@@ -7,7 +7,6 @@ mod Weights
 mod Advancing
 mod TagsAt
 mod Laid
-mod SampleTypes
 mod Mapping
 mod Cutting
 mod Tallies

@@ -10,4 +10,3 @@ pub mod Offsets
 pub mod Heads
 pub mod Pairs
 pub mod Converted
-pub mod Examples

@@ -9,7 +9,7 @@ use sqlite_items::{Boxed, Items};
 use std::alloc::{AllocError, Global};
 use std::test::Fail;
 
-#[tactic(auto, using(p9_sig::proofs::Shapes::type_of_pointer))]
+#[tactic(auto, using(p9_types::proofs::Shapes::type_of_pointer))]
 fn pointer(alloc: Global, target: CType) -> Result<CType, AllocError>
     ensures { IfOk result (λ t. type_of t ≡ Pointer (type_of target)) }
 {

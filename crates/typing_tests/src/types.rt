@@ -1,7 +1,7 @@
 ghost use Rattle.std.specs.Prelude.{◌≡◌, [], IfOk};
 ghost use Rattle.p9_lang.specs.Types.{type_of, member_of, members_of, tag_of, tags_of};
 ghost use Rattle.p9_lang.specs.LayoutExamples.{structure};
-ghost use Rattle.p9_types.specs.Examples.{sample_tag, sample, innermost_tag, enclosing_tag, nested};
+ghost use Rattle.typing_tests.specs.Layouts.{sample_tag, sample, innermost_tag, enclosing_tag, nested};
 
 use p9_types::{Conv, Found, Layout, TypeFault, convert, find_member, layout};
 use p9_base::NoMemory;

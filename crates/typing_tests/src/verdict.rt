@@ -1,6 +1,6 @@
 ghost use Rattle.std.specs.Prelude.{◌≡◌, IfOk};
 ghost use Rattle.p9_lang.specs.Types.{member_of, tag_of, tags_of};
-ghost use Rattle.p9_verdict.specs.Examples.{complete_tag, incomplete_tag, example_tags};
+ghost use Rattle.typing_tests.specs.Structures.{complete_tag, incomplete_tag, example_tags};
 
 use p9_verdict::verdict;
 use p9_base::NoMemory;

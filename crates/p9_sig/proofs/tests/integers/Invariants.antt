@@ -1,7 +1,0 @@
-use Rattle.std.proofs.Common.{◌<◌}
-use Rattle.p9_lang.specs.Types.{types_of, type_row}
-use Rattle.p9_lang.specs.TagRules.{AreMentioned}
-use Rattle.p9_sig.proofs.tests.integers.Given as goal
-
-abbrev pub invariant-each : goal.invariant-each
-invariant-each l = AreMentioned (λ i. i < 0) (type_row (types_of l.types))

@@ -1,5 +1,0 @@
-use Rattle.p9_types.proofs.SampleTypes.{ends_as_nested}
-use Rattle.p9_types.proofs.tests.nested_member.Goals as goal
-
-pub find_member-requires : goal.find_member-requires
-find_member-requires c = ends_as_nested c.in_ok-tags.tags.list c.in_ok-tags.ensures
