@@ -1,5 +1,5 @@
-use p9_su::{Move, Plan, Shape, number, order};
 use p9_base::NoMemory;
+use p9_su::{Move, Plan, Shape, number, order};
 use std::alloc::{AllocError, Global};
 use std::test::Fail;
 

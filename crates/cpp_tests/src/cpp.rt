@@ -1,6 +1,6 @@
 // Units of small files, as tables of their files and what they give.
-use p9_cpp::{CppFault, preprocess};
 use p9_base::{Bytes, Calls, Files, MemFiles, Name};
+use p9_cpp::{CppFault, preprocess};
 use p9_lex::{Token, TokenKind, Tokens};
 use std::alloc::{AllocError, Global};
 use std::test::Fail;

@@ -1,8 +1,7 @@
 // Lines of single instructions.
 
-use p9_lines::add_lines;
-use p9_lines::{Setting, Way};
 use p9_abs::Form;
+use p9_lines::{Setting, Way, add_lines};
 use p9_r3k::Inst;
 use std::alloc::Global;
 use std::test::Fail;

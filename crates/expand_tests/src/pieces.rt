@@ -1,9 +1,8 @@
 // Pieces of small functions.
 
-use p9_pieces::Callees;
-use p9_pieces::{Pieces, program_pieces};
 use indexmap::IndexMap;
 use p9_abs::{AModule, Abs, Code, Op, Operand, Operands, Symbols, TextDef};
+use p9_pieces::{Callees, Pieces, program_pieces};
 use p9_r3k::Inst;
 use p9_text::{Entries, Program, Routine};
 use std::alloc::Global;

@@ -1,9 +1,7 @@
 // Functions of many instructions.
 
-use p9_text::Entries;
-use p9_text::Routine;
-use p9_text::{ExpandFault, text_words};
 use p9_abs::{Abs, Code, Def, Op, Operand, Operands, TextDef};
+use p9_text::{Entries, ExpandFault, Routine, text_words};
 use std::alloc::Global;
 use std::test::Fail;
 

@@ -1,7 +1,7 @@
 // Rows of small functions.
-use p9_flow::{Rows, live};
 use p9_abs::{AFunction, Abs, Autos, Code, Depths, Op, Operand, Operands};
 use p9_base::NoMemory;
+use p9_flow::{Rows, live};
 use std::alloc::Global;
 use std::test::Fail;
 

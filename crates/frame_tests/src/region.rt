@@ -1,8 +1,8 @@
 // Regions, costs and homes of small functions.
-use p9_region::{assign, cost, regions};
 use p9_abs::{AFunction, Abs, Autos, Code, Depths, Op, Operand, Operands};
 use p9_base::NoMemory;
 use p9_flow::live;
+use p9_region::{assign, cost, regions};
 use std::alloc::Global;
 use std::test::Fail;
 

@@ -1,7 +1,7 @@
 // Modules that are loaded, and modules that are refused.
-use p9_load::{Expansion, LoadFault, expand_modules};
 use p9_abs::{AModule, Abs, Body, Code, Op, Operands, Symbol, Symbols, TextDef};
 use p9_base::{Bytes, NoMemory};
+use p9_load::{Expansion, LoadFault, expand_modules};
 use p9_obj::{all_numbered, all_valid};
 use std::alloc::Global;
 use std::process::Abort;

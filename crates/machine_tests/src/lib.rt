@@ -4,6 +4,8 @@
 #[cfg(test)]
 mod aout;
 #[cfg(test)]
+mod r3k;
+#[cfg(test)]
 mod slot;
 #[cfg(test)]
 mod vi;

@@ -1,7 +1,6 @@
 // Words of every row, as another assembler writes them, and words of none.
 
-use p9_r3k::{decode, encode};
-use p9_r3k::Inst;
+use p9_r3k::{Inst, decode, encode};
 use std::test::Fail;
 
 /// A word of each row with its instruction; no two fields of a word are equal.

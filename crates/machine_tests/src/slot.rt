@@ -3,8 +3,8 @@
 ghost use Rattle.std.specs.Prelude.{IsTrue, length};
 ghost use Rattle.p9_slot.specs.Aimed.{IsAimed, AreAimed};
 
-use p9_slot::{Scheduled, schedule};
 use p9_r3k::{Inst, Line, Lines};
+use p9_slot::{Scheduled, schedule};
 use std::alloc::Global;
 use std::test::Fail;
 

@@ -1,10 +1,10 @@
 // Programs whose ends are known by hand.
 ghost use Rattle.std.specs.Prelude.{◌<◌, length};
 
-use p9_vi::{Machine, Stop, simulate};
 use p9_aout::Image;
 use p9_base::{ByteOrder, Bytes, Calls, MemSink, MemSource, NoMemory};
 use p9_r3k::HaltCause;
+use p9_vi::{Machine, Stop, simulate};
 use std::alloc::Global;
 use std::test::Fail;
 

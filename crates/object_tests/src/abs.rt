@@ -1,6 +1,5 @@
 // The weights of all forms, by the table.
-use p9_abs::{Abs, Op, Operand, Operands};
-use p9_abs::{decoded, weight};
+use p9_abs::{Abs, Op, Operand, Operands, decoded, weight};
 use p9_base::NoMemory;
 use std::alloc::Global;
 use std::test::Fail;

@@ -1,6 +1,6 @@
 // Files that are assembled, and files that are refused.
-use p9_asm::{AsmFault, assemble};
 use p9_abs::{Body, DataPiece, Op, Operand, Symbol, TextDef};
+use p9_asm::{AsmFault, assemble};
 use p9_lex::LexFault;
 use std::alloc::Global;
 use std::test::Fail;

@@ -1,6 +1,6 @@
 // How many declarations and statements small files have.
-use p9_form::read_file;
 use p9_base::Bytes;
+use p9_form::read_file;
 use std::alloc::{AllocError, Global};
 use std::test::Fail;
 

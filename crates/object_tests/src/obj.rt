@@ -1,6 +1,6 @@
-use p9_obj::{valid, write_obj};
 use p9_abs::{AModule, Abs, Body, Code, Op, Operand, Operands, Symbol, Symbols, TextDef};
 use p9_base::{Bytes, Name};
+use p9_obj::{valid, write_obj};
 use std::alloc::{AllocError, Global};
 use std::test::Fail;
 

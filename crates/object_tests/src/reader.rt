@@ -1,5 +1,5 @@
-use p9_reader::{ObjFault, ObjReader, read_obj};
 use p9_obj::write_obj;
+use p9_reader::{ObjFault, ObjReader, read_obj};
 use std::alloc::Global;
 use std::test::Fail;
 

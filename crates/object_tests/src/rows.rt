@@ -1,6 +1,6 @@
 // Where the lines of a file stand.
-use p9_rows::{lexemes_of, rows_of};
 use p9_lex::{Dialect, lex};
+use p9_rows::{lexemes_of, rows_of};
 use std::test::Fail;
 
 // Lines of the first function, of the second, and one that is none.

@@ -1,9 +1,9 @@
 // Lines that are statements, and lines that are none.
+use p9_abs::Op;
+use p9_lex::{Dialect, lex};
 use p9_statement::{
     Argument, Arguments, Lexeme, Line, Statement, fits_frame, lexeme_of, line_of, reserved_register,
 };
-use p9_abs::Op;
-use p9_lex::{Dialect, lex};
 use std::alloc::Global;
 use std::test::Fail;
 

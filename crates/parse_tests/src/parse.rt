@@ -1,6 +1,6 @@
-use p9_parse::{ParseFault, parse};
 use p9_lang::Tree;
 use p9_lex::{Dialect, lex};
+use p9_parse::{ParseFault, parse};
 use std::alloc::Global;
 use std::test::Fail;
 

@@ -1,6 +1,6 @@
-use p9_terminal::terminal;
 use p9_grammar::{Keyword, Punctuator, Terminal};
 use p9_lex::{Dialect, lex};
+use p9_terminal::terminal;
 use std::test::Fail;
 
 #[test]

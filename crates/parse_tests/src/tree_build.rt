@@ -1,5 +1,5 @@
-use p9_tree_build::{Level, Pile, Scope};
 use p9_lang::Ident;
+use p9_tree_build::{Level, Pile, Scope};
 use std::test::Fail;
 
 #[test]

@@ -1,6 +1,6 @@
-use p9_tree_reader::Reader;
 use p9_grammar::{Keyword, Punctuator, Terminal};
 use p9_lang::Ident;
+use p9_tree_reader::Reader;
 use std::test::Fail;
 
 #[test]

@@ -2,8 +2,8 @@
 mod loading;
 mod objects;
 
-use p9_suite::suite;
 use p9_base::{Bytes, Calls, Files, Got, MemFiles, MemSink, MemSource, Words};
+use p9_suite::suite;
 use std::alloc::{AllocError, Global};
 use std::test::Fail;
 

@@ -4,9 +4,9 @@ ghost use Rattle.std.specs.Prelude.{◌≡◌, ◌≤◌, [], length, All, IfOk}
 ghost use Rattle.p9_lang.specs.Types.{Array, Int, type_of};
 ghost use Rattle.p9_init.specs.Images.{EntryInside};
 
-use p9_init::{InitFault, image};
 use p9_abs::{DataPiece, Pieces};
 use p9_base::{Bytes, NoMemory};
+use p9_init::{InitFault, image};
 use p9_lang::{CType, Tags};
 use p9_tree::{State, TEntry, TInit, TModule, TSym, TTree, Width};
 use sqlite_items::{Boxed, Items};

@@ -1,6 +1,6 @@
-use p9_operand::{Constant, Operand, constant_at};
 use p9_base::NoMemory;
 use p9_lang::{Bind, CBinary, CType, Kind, Tags};
+use p9_operand::{Constant, Operand, constant_at};
 use sqlite_items::{Boxed, Items};
 use std::alloc::Global;
 use std::test::Fail;

@@ -1,6 +1,6 @@
-use p9_scopes::{Declared, Known, NameLevel, Names};
 use p9_base::NoMemory;
 use p9_lang::{Bind, CType, Ident};
+use p9_scopes::{Declared, Known, NameLevel, Names};
 use std::alloc::Global;
 use std::test::Fail;
 

@@ -3,8 +3,8 @@ ghost use Rattle.p9_lang.specs.Types.{Pointer, type_of, types_of, type_row, tag_
 ghost use Rattle.p9_lang.specs.TagRules.{AreMentioned};
 ghost use Rattle.p9_sig.specs.Examples.{node, edge};
 
-use p9_sig::{SigFault, signature, text_examples, texts_tell_types, types_have_texts};
 use p9_lang::{CType, Ident, Member, Tag, Tags};
+use p9_sig::{SigFault, signature, text_examples, texts_tell_types, types_have_texts};
 use sqlite_items::{Boxed, Items};
 use std::alloc::{AllocError, Global};
 use std::test::Fail;

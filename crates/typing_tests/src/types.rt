@@ -3,9 +3,9 @@ ghost use Rattle.p9_lang.specs.Types.{type_of, member_of, members_of, tag_of, ta
 ghost use Rattle.p9_lang.specs.LayoutExamples.{structure};
 ghost use Rattle.typing_tests.specs.Layouts.{sample_tag, sample, innermost_tag, enclosing_tag, nested};
 
-use p9_types::{Conv, Found, Layout, TypeFault, convert, find_member, layout};
 use p9_base::NoMemory;
 use p9_lang::{CType, Ident, Member, Tag, Tags};
+use p9_types::{Conv, Found, Layout, TypeFault, convert, find_member, layout};
 use sqlite_items::{Boxed, Items};
 use std::alloc::Global;
 use std::test::Fail;

@@ -2,10 +2,10 @@ ghost use Rattle.std.specs.Prelude.{◌≡◌, IfOk};
 ghost use Rattle.p9_lang.specs.Types.{member_of, tag_of, tags_of};
 ghost use Rattle.typing_tests.specs.Structures.{complete_tag, incomplete_tag, example_tags};
 
-use p9_verdict::verdict;
 use p9_base::NoMemory;
 use p9_lang::{CBinary, CType, CUnary, Ident, Kind, Member, Tag, Tags};
 use p9_operand::{Constant, Operand, Rule, RuleFault, Verdict};
+use p9_verdict::verdict;
 use sqlite_items::{Boxed, Items};
 use std::alloc::Global;
 use std::test::Fail;

@@ -1,7 +1,7 @@
 // Objects of assembler files.
 use super::{bytes, calls, words};
-use p9_suite::suite;
 use p9_base::{Files, Got, MemFiles, MemSink, MemSource};
+use p9_suite::suite;
 use std::alloc::Global;
 use std::test::Fail;
 
