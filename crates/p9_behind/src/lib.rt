@@ -1,0 +1,7 @@
+//! What a part means to the node that it is a part of: declarators that are whole, enumeration
+//! constants, members, initialisers, labels.
+#![tactic(auto)]
+
+mod passing;
+
+pub use passing::behind;

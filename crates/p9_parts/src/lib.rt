@@ -1,0 +1,10 @@
+//! The parts of nodes while a file is typed: what they are asked to be, and what they turned out to be.
+#![tactic(auto)]
+
+mod part;
+mod parts;
+mod role;
+
+pub use part::{Frame, Initialiser, Part};
+pub use parts::{Parts, first_constant, inner_steps};
+pub use role::{Context, Role};
