@@ -54,7 +54,10 @@ impl Labels {
         ensures default { IfOk result (λ labels. labels.has_default
             ≡ (self.has_default || list_any is_default (part_of part.now ∷ []))) }
     {
-        let Labels { mut cases, has_default } = self;
+        let Labels {
+            mut cases,
+            has_default,
+        } = self;
         match part {
             Part::CaseLabel(word) => {
                 insert(&mut cases, *word)?;
