@@ -1,6 +1,7 @@
 -- Members by their numbers and names.
-use Rattle.std.proofs.Common.{◌≡◌, ◌≤◌, ◌<◌, ◌+◌, ℕ, zero, suc, Bool, true, false, cond, List, [], ◌∷◌, length, slice_get, get_or, Option, Some, None, MatchOption, IfSome, Bor, refl, sym, ap, ◌∙◌, arith}
+use Rattle.std.proofs.Common.{◌≡◌, ◌≤◌, ◌<◌, ◌+◌, ℕ, zero, suc, nat_eq, Bool, true, false, ◌&&◌, cond, List, [], ◌∷◌, length, slice_get, get_or, Option, Some, None, MatchOption, IfSome, Bor, refl, sym, ap, ◌∙◌, arith}
 use Rattle.std.specs.List.{HoldsAt, filter}
+use Rattle.std.specs.Cmp.Lexicographic.{pointwise}
 use Rattle.p9_lang.specs.declared.types.Member.{Member}
 use Rattle.p9_lang.specs.Names.{same_name}
 use Rattle.p9_lang.specs.Types.{MemberTree, TagTree, Tags, member_of, members_of, type_of}
@@ -35,6 +36,15 @@ pub placed_by_number : (tags : Tags) (i k : ℕ) → placing (slice_get (placed 
 placed_by_number tags i k = numbered_in_tag tags k (slice_get tags i)
 
 -- A MEMBER BY ITS NAME
+
+pub names_by_bytes : (xs ys : List ℕ) (b : Bool) → b ≡ pointwise nat_eq xs ys → b ≡ same_name xs ys
+names_by_bytes xs ys b e = e ∙ same xs ys
+  where
+    same : (xs ys : List ℕ) → pointwise nat_eq xs ys ≡ same_name xs ys
+    same [] [] = refl
+    same [] (y ∷ ys) = refl
+    same (x ∷ xs) [] = refl
+    same (x ∷ xs) (y ∷ ys) = ap (λ c. nat_eq x y && c) (same xs ys)
 
 named_first : (t : Bool) (first : Placed) (others : List Placed) (further : Option Placing)
     → placing (slice_get others 0) ≡ further → placing (slice_get (cond t (first ∷ others) others) 0) ≡ cond t (placing (Some first)) further

@@ -41,12 +41,7 @@ fn array_of(alloc: Global, element: &CType, count: u32) -> Result<CType, NoMemor
 }
 
 // Whether an array may be so long that it has this position.
-fn may_reach(
-    alloc: Global,
-    tags: &Tags,
-    element: &CType,
-    position: u32,
-) -> Result<bool, NoMemory>
+fn may_reach(alloc: Global, tags: &Tags, element: &CType, position: u32) -> Result<bool, NoMemory>
     requires { NoneContainsItself (tags_of tags.now.list) }
     ensures { IfOk result (λ may. may
         ≡ is_within_limit (tags_of tags.now.list) (Array (type_of element.now) (suc position))) }

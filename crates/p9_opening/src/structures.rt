@@ -58,12 +58,7 @@ pub(crate) fn structure_filled<'a>(
 }
 
 #[tactic(auto, using(crate::proofs::Filling::missing_by_place))]
-fn named_rules(
-    alloc: Global,
-    tags: &Tags,
-    tag: u32,
-    name: &Ident,
-) -> Result<Option<Rule>, NoMemory>
+fn named_rules(alloc: Global, tags: &Tags, tag: u32, name: &Ident) -> Result<Option<Rule>, NoMemory>
     ensures { IfOk result (λ rule. told_least rule
         ≡ least (specs.member_found_rules name.now (direct_member (tags_of tags.now.list) tag name.now))) }
 {

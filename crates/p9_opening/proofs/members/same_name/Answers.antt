@@ -1,6 +1,6 @@
 use Rattle.std.proofs.Common.{nat_eq, ap, ◌∙◌}
 use Rattle.std.specs.Cmp.Lexicographic.{pointwise}
-use Rattle.p9_types.proofs.NamedMembers.{names_by_bytes}
+use Rattle.p9_opening.proofs.Placings.{names_by_bytes}
 use Rattle.p9_opening.proofs.members.same_name.Goals as goal
 
 pub returns : goal.returns
