@@ -3,6 +3,7 @@
 
 mod arrays;
 mod asking;
+mod contexts;
 mod entries;
 mod members;
 mod opening;

@@ -43,6 +43,7 @@ fn bare(context: Context) -> Frame
     framed(context, CType::Void, Storage::NoClass, None)
 }
 
+#[tactic(auto, using(p9_types::proofs::Shapes::shapes))]
 fn undeclared(
     alloc: Global,
     storage: Storage,
