@@ -261,22 +261,26 @@ pub fn asked(
         → context_of (lent_names kind.now (frame_of names frame.now) (parts_of before.now) names) c
         ≡ specs.context kind.now (frame_of names frame.now) (parts_of before.now) part.now (known_of known.now)) }
 {
-    let context = match kind {
-        Kind::Declaration { .. } => declaration_context(alloc, known, frame, before, part)?,
-        Kind::Function { .. } => function_context(alloc, frame, before, part)?,
+    match kind {
+        Kind::Declaration { .. } => declaration_context(alloc, known, frame, before, part),
+        Kind::Function { .. } => function_context(alloc, frame, before, part),
         Kind::Member { .. } | Kind::Param { .. } | Kind::NamedType { .. } => {
-            spec_context(alloc, frame, before)?
+            let context = spec_context(alloc, frame, before)?;
+            Ok(context)
         }
         Kind::Star { .. } | Kind::DeclParens | Kind::Brackets { .. } => {
-            step_context(alloc, frame, part)?
+            let context = step_context(alloc, frame, part)?;
+            Ok(context)
         }
-        Kind::Params { .. } => parameter_context(alloc, frame, before, part)?,
-        Kind::InitList { .. } => list_context(alloc, frame, before)?,
-        Kind::Entry { by, equals: _ } => entry_context(alloc, known, frame, by, before)?,
-        Kind::Expression => in_role(alloc, &frame.context, Role::Whole)?,
-        Kind::While | Kind::Do | Kind::For { .. } => loop_context(alloc, frame)?,
-        Kind::Switch => switch_context(alloc, frame)?,
-        _ => in_role(alloc, &frame.context, Role::Plain)?,
-    };
-    Ok(context)
+        Kind::Params { .. } => parameter_context(alloc, frame, before, part),
+        Kind::InitList { .. } => list_context(alloc, frame, before),
+        Kind::Entry { by, equals: _ } => entry_context(alloc, known, frame, by, before),
+        Kind::Expression => in_role(alloc, &frame.context, Role::Whole),
+        Kind::While | Kind::Do | Kind::For { .. } => {
+            let context = loop_context(alloc, frame)?;
+            Ok(context)
+        }
+        Kind::Switch => switch_context(alloc, frame),
+        _ => in_role(alloc, &frame.context, Role::Plain),
+    }
 }
