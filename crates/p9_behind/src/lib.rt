@@ -2,6 +2,8 @@
 //! constants, members, initialisers, labels.
 #![tactic(auto)]
 
+mod declarators;
+mod following;
 mod passing;
 
 pub use passing::behind;
