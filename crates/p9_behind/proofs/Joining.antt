@@ -1,5 +1,5 @@
 -- Lists of names and members, one behind another.
-use Rattle.std.proofs.Common.{◌≡◌, ℕ, ◌||◌, List, [], ◌∷◌, ◌++◌, append_assoc, refl, ap, sym, ◌∙◌}
+use Rattle.std.proofs.Common.{◌≡◌, ℕ, ◌||◌, List, [], ◌∷◌, ◌++◌, map, append_assoc, refl, ap, sym, ◌∙◌}
 use Rattle.std.proofs.lemmas.List.Folds.{list_any-append}
 use Rattle.p9_lang.specs.declared.types.Member.{Member}
 use Rattle.p9_lang.specs.Names.{is_among, same_name}
@@ -32,3 +32,26 @@ members_last (Filled next ∷ parts) members = members_last parts members
 members_last (CaseLabel word ∷ parts) members = members_last parts members
 members_last (DefaultLabel ∷ parts) members = members_last parts members
 members_last (Statement ∷ parts) members = members_last parts members
+
+members_first : (part : Part) (parts : List Part) → members_in (part ∷ parts) ≡ members_in (part ∷ []) ++ members_in parts
+members_first (Members ms) parts = ap (λ l. l ++ members_in parts) (sym (empty_behind ms))
+members_first (Value o) parts = refl
+members_first (Declarator steps) parts = refl
+members_first (Object type steps last role) parts = refl
+members_first (Enumerator x value) parts = refl
+members_first (Parameter type) parts = refl
+members_first (NamedType type) parts = refl
+members_first (Braced count) parts = refl
+members_first (Filled next) parts = refl
+members_first (CaseLabel word) parts = refl
+members_first DefaultLabel parts = refl
+members_first Statement parts = refl
+
+-- one part more
+pub members_on : {A : Type 0} (told : A → Part) (parts others : List A) (first : A) (so_far next whole : List MemberTree) → parts ≡ first ∷ others
+    → next ≡ so_far ++ members_in (map told (first ∷ [])) → so_far ++ members_in (map told parts) ≡ whole → next ++ members_in (map told others) ≡ whole
+members_on told parts others first so_far next whole e f g =
+    ap (λ l. l ++ members_in (map told others)) f
+    ∙ append_assoc so_far (members_in (map told (first ∷ []))) (members_in (map told others))
+    ∙ ap (λ l. so_far ++ l) (sym (members_first (told first) (map told others)))
+    ∙ ap (λ l. so_far ++ members_in (map told l)) (sym e) ∙ g

@@ -207,13 +207,11 @@ fn parameter_declared(
     known: &mut Known,
     alloc: Global,
     frame: &Frame,
-    names: &Names,
     steps: Vec<Step>,
 ) -> Result<Part, TypingFault>
-    ensures { Judges part_of result (known_of known.new)
-        (specs.declare_parameter (frame_of names.now frame.now) (steps_of steps.items) (declarators.name_of (steps_of steps.items)) (known_of known.old)) }
+    ensures { (names : List (List ℕ)) → Judges part_of result (known_of known.new)
+        (specs.declare_parameter (frame_of names frame.now) (steps_of steps.items) (declarators.name_of (steps_of steps.items)) (known_of known.old)) }
 {
-    let _ = names;
     let last = last_node(known);
     let number = own_number(&frame.context.role);
     match declare_parameter(known, alloc, &frame.base, number, steps.as_slice()) {
@@ -270,7 +268,7 @@ pub(crate) fn declared(
         }
         Kind::Function { .. } => function_declared(known, alloc, frame, steps),
         Kind::Member { .. } => member_declared(known, alloc, frame, names, before, steps),
-        Kind::Param { .. } => parameter_declared(known, alloc, frame, names, steps),
+        Kind::Param { .. } => parameter_declared(known, alloc, frame, steps),
         Kind::NamedType { .. } => type_closed(known, alloc, frame, steps),
         _ => Ok(Part::Declarator(steps)),
     }

@@ -35,7 +35,6 @@ fn kind_that_follows(kind: &Kind) -> Follows
 }
 
 /// What the parts behind a declarator begin with.
-#[tactic(auto, using(crate::proofs::Nodes::first_follows))]
 pub(crate) fn what_follows(rest: &[Node]) -> Follows
     ensures { told_follows result ≡ specs.follows (row_of rest.now) }
 {

@@ -4,6 +4,9 @@
 
 mod declarators;
 mod following;
+mod initialisers;
+mod labels;
+mod members;
 mod passing;
 
 pub use passing::behind;
