@@ -1,5 +1,5 @@
 -- Structures whose bodies are complete.
-use Rattle.std.proofs.Common.{◌≡◌, ℕ, suc, Bool, true, false, nat_eq, List, [], ◌∷◌, ◌++◌, length, map, Option, Some, None, refl, ap, sym, ◌∙◌}
+use Rattle.std.proofs.Common.{◌≡◌, ℕ, suc, Bool, true, false, nat_eq, List, [], ◌∷◌, ◌++◌, length, map, Option, Some, ap, sym, ◌∙◌}
 use Rattle.std.proofs.lemmas.List.{length-map}
 use Rattle.p9_lang.specs.Types.{MemberTree}
 use Rattle.p9_lang.specs.Scopes.{Known, complete_tag}
@@ -18,7 +18,7 @@ by_last is_last other tag members s e = ap (λ b. complete_if b tag members s) e
 pub body_goes_on : {A : Type 0} (told : A → Part) (braces number : ℕ) (before : List A) (members : List MemberTree) (s : Known)
     → nat_eq (suc (length before)) braces ≡ false → s ≡ after told braces (Some number) before members s
 body_goes_on told braces number before members s e =
-    sym (by_last _ _ (Some number) (members_in (map told before ++ Members members ∷ [])) s (ap (λ n. nat_eq (suc n) braces) (length-map told before) ∙ e))
+    sym (by_last _ _ (Some number) (members_in (map told before ++ Members members ∷ [])) s (ap (λ n. nat_eq (suc n) braces) (length-map before told) ∙ e))
 
 -- the part is the last
 pub body_ends : {A : Type 0} (told : A → Part) (braces number : ℕ) (before : List A) (members all : List MemberTree) (s final : Known)
@@ -26,4 +26,4 @@ pub body_ends : {A : Type 0} (told : A → Part) (braces number : ℕ) (before :
     → final ≡ complete_tag number all s → final ≡ after told braces (Some number) before members s
 body_ends told braces number before members all s final e f g =
     g ∙ ap (λ ms. complete_tag number ms s) (f ∙ sym (members_last (map told before) members))
-    ∙ sym (by_last _ _ (Some number) (members_in (map told before ++ Members members ∷ [])) s (ap (λ n. nat_eq (suc n) braces) (length-map told before) ∙ e))
+    ∙ sym (by_last _ _ (Some number) (members_in (map told before ++ Members members ∷ [])) s (ap (λ n. nat_eq (suc n) braces) (length-map before told) ∙ e))

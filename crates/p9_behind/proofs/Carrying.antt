@@ -1,5 +1,5 @@
 -- What operations answer, by equal answers.
-use Rattle.std.proofs.Common.{◌≡◌, Result, Ok, Err, refl, sym, ◌∙◌}
+use Rattle.std.proofs.Common.{◌≡◌, Result, Ok, Err, sym, ◌∙◌}
 use Rattle.p9_lang.specs.Rules.{Broken}
 use Rattle.p9_lang.specs.Scopes.{Known}
 use Rattle.p9_declare.specs.declared.fault.TypingFault.{TypingFault}

@@ -55,3 +55,7 @@ members_on told parts others first so_far next whole e f g =
     ∙ append_assoc so_far (members_in (map told (first ∷ []))) (members_in (map told others))
     ∙ ap (λ l. so_far ++ l) (sym (members_first (told first) (map told others)))
     ∙ ap (λ l. so_far ++ members_in (map told l)) (sym e) ∙ g
+
+-- those of a part that is members
+pub members_with : (ms others all : List Member) → all ≡ ms ++ others → members_of all ≡ members_of ms ++ (members_of others ++ [])
+members_with ms others all e = ap members_of e ∙ members_append ms others ∙ ap (λ l. members_of ms ++ l) (sym (empty_behind (members_of others)))

@@ -1,8 +1,8 @@
 -- Objects without a length, and the lengths that initialisers give.
-use Rattle.std.proofs.Common.{◌≡◌, ℕ, zero, suc, Bool, true, false, List, Option, Some, None, Ok, refl, ap, sym, ◌∙◌}
+use Rattle.std.proofs.Common.{◌≡◌, ℕ, zero, suc, Bool, true, false, List, Option, Some, Ok, refl, ap, sym}
 use Rattle.p9_lang.specs.Types.{TypeTree, Void, Char, UChar, Short, UShort, Int, UInt, Long, ULong, Pointer, Array, Function, Tagged}
 use Rattle.p9_lang.specs.Conversions.{is_array}
-use Rattle.p9_lang.specs.Constants.{Operand, Constant}
+use Rattle.p9_lang.specs.Constants.{Constant}
 use Rattle.p9_lang.specs.Scopes.{Known}
 use Rattle.p9_lang.specs.Declarators.{Step, name_of}
 use Rattle.p9_lang.specs.Parts.{Role, Part, Object, Value, name_in}

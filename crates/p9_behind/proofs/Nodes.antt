@@ -1,5 +1,5 @@
 -- Nodes of the program, by their kinds.
-use Rattle.std.proofs.Common.{◌≡◌, ◌≤◌, List, [], ◌∷◌, length, slice_index_or, refl, ap, sym, ◌∙◌, arith}
+use Rattle.std.proofs.Common.{◌≡◌, ◌≤◌, List, [], ◌∷◌, length, slice_index_or, ap, sym, ◌∙◌, arith}
 use Rattle.p9_lang.specs.declared.tree.Node.{Node, out-Node, fold_out-Node}
 use Rattle.p9_lang.specs.Trees.{Syntax, syntax_step, syntax_of, row_of}
 use Rattle.p9_lang.specs.Parts.{Follows, kind_at, follows, follows_kind}

@@ -17,8 +17,8 @@ ghost use Rattle.p9_parts.specs.Told.{role_of, initialiser_of, part_of, parts_of
 use p9_base::NoMemory;
 use p9_declare::{TypingFault, last_node, with_given_length};
 use p9_lang::{CType, EntryBy, Kind, Tags};
-use p9_operand::{Rule, is_scalar, value_rules};
 use p9_opening::{entry_role, is_index_next};
+use p9_operand::{Rule, is_scalar, value_rules};
 use p9_parts::{Frame, Initialiser, Part, Parts, Role};
 use p9_scopes::Known;
 use p9_types::array_elements;
@@ -72,16 +72,25 @@ fn with_length_given(
         (specs.with_length_given (type_of base.now) (option_map part_of (option_copied object.entry)) (part_of part.now) (known_of known.old)) }
 {
     match object {
-        Some(Part::Object {
-            ty,
-            steps,
-            last,
-            initialiser: _,
-        }) => {
+        Some(
+            Part::Object {
+                ty,
+                steps,
+                last,
+                initialiser: _,
+            },
+        ) => {
             if !lacks_length(ty) {
                 return Ok(());
             }
-            with_given_length(known, alloc, base, steps.as_slice(), *last, given_length(part))
+            with_given_length(
+                known,
+                alloc,
+                base,
+                steps.as_slice(),
+                *last,
+                given_length(part),
+            )
         }
         Some(
             Part::Value(_)
@@ -194,12 +203,14 @@ fn object_rule(
         ≡ least (specs.initialiser_rules (tags_of tags.now.list) (parts.object_role (option_map part_of (option_copied object.entry))) (part_of part.now))) }
 {
     match object {
-        Some(Part::Object {
-            ty,
-            steps: _,
-            last: _,
-            initialiser,
-        }) => declared_rule(alloc, tags, *initialiser, ty, part),
+        Some(
+            Part::Object {
+                ty,
+                steps: _,
+                last: _,
+                initialiser,
+            },
+        ) => declared_rule(alloc, tags, *initialiser, ty, part),
         Some(
             Part::Value(_)
             | Part::Declarator(_)
@@ -218,12 +229,7 @@ fn object_rule(
 }
 
 // The rule on an initialiser in this role.
-fn role_rule(
-    alloc: Global,
-    tags: &Tags,
-    role: &Role,
-    part: &Part,
-) -> Result<Option<Rule>, NoMemory>
+fn role_rule(alloc: Global, tags: &Tags, role: &Role, part: &Part) -> Result<Option<Rule>, NoMemory>
     requires { NoneContainsItself (tags_of tags.now.list) }
     ensures { IfOk result (λ rule. (names : List (List ℕ)) → told_least rule
         ≡ least (specs.initialiser_rules (tags_of tags.now.list) (role_of names role.now) (part_of part.now))) }
@@ -267,7 +273,7 @@ fn object_initialised(
     }
 }
 
-// What an entry of a list fills.
+// The initialiser of an entry in a list.
 #[tactic(auto, using(p9_operand::proofs::Leasts::unless_at_node))]
 fn entry_initialised(
     known: &Known,

@@ -41,16 +41,15 @@ fn with_copies(
 }
 
 // Members, and those of a part behind them.
-#[tactic(auto, using(crate::proofs::Joining::members_append))]
-fn with_part(
-    alloc: Global,
-    members: Items<Member>,
-    part: &Part,
-) -> Result<Items<Member>, NoMemory>
+#[tactic(auto, using(crate::proofs::Joining::members_with))]
+fn with_part(alloc: Global, members: Items<Member>, part: &Part) -> Result<Items<Member>, NoMemory>
     ensures { IfOk result (λ all. members_of all ≡ members_of members ++ parts.members_in (parts_of (part.now ∷ []))) }
 {
     match part {
-        Part::Members(others) => with_copies(alloc, members, others.as_slice()),
+        Part::Members(others) => {
+            let all = with_copies(alloc, members, others.as_slice())?;
+            Ok(all)
+        }
         Part::Value(_)
         | Part::Declarator(_)
         | Part::Object { .. }
