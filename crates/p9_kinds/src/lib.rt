@@ -1,11 +1,15 @@
 //! What a node is, once its parts are judged, by its kind.
 #![tactic(auto)]
 
+mod expressions;
+mod initialisers;
 mod kinds;
 mod nodes;
 mod roles;
 mod statements;
 
+pub use expressions::{judged_expression, judged_name, judged_text};
+pub use initialisers::{judged_entry, judged_list};
 pub use kinds::judged;
 pub use nodes::{has, typeless};
 pub use roles::role_rule;

@@ -1,5 +1,5 @@
 // Nodes with their types and meanings.
-ghost use Rattle.std.specs.Prelude.{◌≡◌, List};
+ghost use Rattle.std.specs.Prelude.{◌≡◌, List, []};
 ghost use Rattle.p9_lang.specs.Rules as rules;
 ghost use Rattle.p9_lang.specs.Types.{type_of, meant};
 ghost use Rattle.p9_lang.specs.Typing as specs;
@@ -14,6 +14,15 @@ use p9_lang::{Bind, CType};
 use p9_operand::Rule;
 use p9_parts::Part;
 use p9_scopes::Known;
+
+/// The next node has this type and meaning, and is this part; it breaks no rule.
+pub fn added(known: &mut Known, ty: CType, bind: Bind, part: Part) -> Result<Part, TypingFault>
+    ensures { Judges part_of result (known_of known.new)
+        (specs.has [] (type_of ty) (meant bind) (part_of part) (known_of known.old)) }
+{
+    known.add_node(ty, bind)?;
+    Ok(part)
+}
 
 /// The next node has this type and meaning, and is this part, unless it breaks a rule.
 #[tactic(auto, using(p9_operand::proofs::Leasts::unless_at_node))]
@@ -32,10 +41,7 @@ pub fn has(
             node: known.next_node(),
             rule,
         }),
-        None => {
-            known.add_node(ty, bind)?;
-            Ok(part)
-        }
+        None => added(known, ty, bind, part),
     }
 }
 
