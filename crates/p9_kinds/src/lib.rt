@@ -1,8 +1,14 @@
 //! What a node is, once its parts are judged, by its kind.
 #![tactic(auto)]
 
+mod expressions;
+mod heads;
+mod initialisers;
 mod kinds;
+mod nodes;
 mod roles;
+mod statements;
+mod steps;
 
 pub use kinds::judged;
 pub use roles::role_rule;
