@@ -8,7 +8,8 @@ mod kinds;
 mod nodes;
 mod roles;
 mod statements;
-mod steps;
 
 pub use kinds::judged;
+pub use nodes::{has, typeless};
 pub use roles::role_rule;
+pub use statements::{judged_case, loop_test_rule, return_rule, switch_rule, test_rule};

@@ -1,7 +1,7 @@
-// Nodes that have types and meanings, unless they break rules.
+// Nodes with their types and meanings.
 ghost use Rattle.std.specs.Prelude.{◌≡◌, List};
-ghost use Rattle.p9_lang.specs.Types.{type_of, meant};
 ghost use Rattle.p9_lang.specs.Rules as rules;
+ghost use Rattle.p9_lang.specs.Types.{type_of, meant};
 ghost use Rattle.p9_lang.specs.Typing as specs;
 ghost use Rattle.p9_operand.specs.Least.{least};
 ghost use Rattle.p9_operand.specs.Told.{told_least};
@@ -16,35 +16,35 @@ use p9_parts::Part;
 use p9_scopes::Known;
 
 /// The next node has this type and meaning, and is this part, unless it breaks a rule.
-pub(crate) fn has(
+#[tactic(auto, using(p9_operand::proofs::Leasts::unless_at_node))]
+pub fn has(
     known: &mut Known,
     rule: Option<Rule>,
     ty: CType,
     bind: Bind,
     part: Part,
 ) -> Result<Part, TypingFault>
-    ensures { (rules : List rules.Rule) → told_least rule ≡ least rules → Judges part_of result (known_of known.new)
-        (specs.has rules (type_of ty) (meant bind) (part_of part) (known_of known.old)) }
+    ensures { (broken : List rules.Rule) → told_least rule ≡ least broken → Judges part_of result (known_of known.new)
+        (specs.has broken (type_of ty) (meant bind) (part_of part) (known_of known.old)) }
 {
-    let _ = known;
-    let _ = rule;
-    let _ = ty;
-    let _ = bind;
-    let _ = part;
-    Err(TypingFault::Memory)
+    match rule {
+        Some(rule) => Err(TypingFault::Broken {
+            node: known.next_node(),
+            rule,
+        }),
+        None => {
+            known.add_node(ty, bind)?;
+            Ok(part)
+        }
+    }
 }
 
-/// Likewise, of a node without a type.
-pub(crate) fn typeless(
-    known: &mut Known,
-    rule: Option<Rule>,
-    part: Part,
-) -> Result<Part, TypingFault>
-    ensures { (rules : List rules.Rule) → told_least rule ≡ least rules → Judges part_of result (known_of known.new)
-        (specs.typeless rules (part_of part) (known_of known.old)) }
+/// The next node has no type and stands for nothing, as that of a statement, and is this part, unless
+/// it breaks a rule.
+#[tactic(auto, using(p9_types::proofs::Shapes::type_of_void))]
+pub fn typeless(known: &mut Known, rule: Option<Rule>, part: Part) -> Result<Part, TypingFault>
+    ensures { (broken : List rules.Rule) → told_least rule ≡ least broken → Judges part_of result (known_of known.new)
+        (specs.typeless broken (part_of part) (known_of known.old)) }
 {
-    let _ = known;
-    let _ = rule;
-    let _ = part;
-    Err(TypingFault::Memory)
+    has(known, rule, CType::Void, Bind::Nothing, part)
 }
