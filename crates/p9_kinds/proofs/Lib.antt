@@ -1,1 +1,4 @@
 pub mod Values
+pub mod Answered
+pub mod Listing
+pub mod Specs

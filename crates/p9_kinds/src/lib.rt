@@ -1,15 +1,16 @@
 //! What a node is, once its parts are judged, by its kind.
 #![tactic(auto)]
 
+mod controls;
 mod expressions;
 mod heads;
 mod initialisers;
 mod kinds;
+mod members;
 mod nodes;
 mod roles;
 mod statements;
+mod steps;
 
 pub use kinds::judged;
-pub use nodes::{has, typeless};
 pub use roles::role_rule;
-pub use statements::{judged_case, loop_test_rule, return_rule, switch_rule, test_rule};

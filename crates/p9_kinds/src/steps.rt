@@ -10,9 +10,10 @@ ghost use Rattle.p9_scopes.specs.State.{known_of};
 ghost use Rattle.p9_declare.specs.Judging.{Judges};
 ghost use Rattle.p9_declare.specs.Told.{told_shape, steps_of};
 ghost use Rattle.p9_parts.specs.Told.{role_of, part_of, parts_of};
-ghost use Rattle.p9_kinds.specs.Steps.{sized_alone};
+ghost use Rattle.p9_kinds.specs.Alone.{sized_alone};
 
-use crate::nodes::{has, typeless};
+use crate::controls::sound;
+use crate::nodes::has;
 use p9_base::NoMemory;
 use p9_declare::{Shape, Step, TypingFault};
 use p9_lang::{Bind, CType, Ident};
@@ -92,7 +93,7 @@ pub(crate) fn judged_decl_name(
             Part::Declarator(steps),
         );
     }
-    typeless(known, None, Part::Declarator(steps))
+    sound(known, Part::Declarator(steps))
 }
 
 /// A step behind these.
@@ -105,7 +106,7 @@ pub(crate) fn stepped(
         (specs.stepped (steps_of steps.items) (told_shape shape) (known_of known.old)) }
 {
     let steps = with_step(known, steps, shape)?;
-    typeless(known, None, Part::Declarator(steps))
+    sound(known, Part::Declarator(steps))
 }
 
 // The steps that a part is, where it is a declarator.
@@ -241,6 +242,7 @@ struct Listed {
 }
 
 // One parameter more, if the part is one.
+#[tactic(auto, using(p9_scopes::proofs::NodeLists::types_end))]
 fn with_parameter(parameters: Items<CType>, part: Part) -> Result<Items<CType>, NoMemory>
     ensures { IfOk result (λ more. types_of more ≡ types_of parameters ++ part_specs.parameter_types (part_of part ∷ [])) }
 {
@@ -265,6 +267,7 @@ fn with_parameter(parameters: Items<CType>, part: Part) -> Result<Items<CType>, 
 }
 
 // These parameters and those behind them, the last one first.
+#[tactic(auto, using(crate::proofs::Listing::parameters_step))]
 fn with_parameters(parameters: Items<CType>, left: Vec<Part>) -> Result<Items<CType>, NoMemory>
     ensures { IfOk result (λ all. types_of all ≡ types_of parameters ++ part_specs.parameter_types (parts_of (reverse left.items))) }
 {
