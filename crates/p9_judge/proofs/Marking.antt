@@ -1,0 +1,44 @@
+-- Structures and unions that are marked, one after the other.
+use Rattle.std.proofs.Common.{◌≡◌, ◌≤◌, ◌<◌, ℕ, zero, suc, ◌&&◌, not, Bool, true, false, List, [], ◌∷◌, ◌++◌, length, map, reverse, slice_get, slice_set, Some, refl, sym, ap, ◌∙◌, arith}
+use Rattle.std.specs.Prelude.{if◌then◌else◌}
+use Rattle.p9_lang.specs.declared.types.Tag.{Tag}
+use Rattle.p9_lang.specs.Files.{mark_tag, mark_tags}
+use Rattle.p9_lang.specs.Names.{is_among}
+use Rattle.p9_lang.specs.Scopes.{is_enumeration}
+use Rattle.p9_lang.specs.Scopes as scopes
+use Rattle.p9_lang.specs.Types.{Tags, tags_of}
+use Rattle.p9_scopes.specs.declared.tag.TagName.{TagName}
+use Rattle.p9_scopes.specs.Seen.{tag_name_of, tag_level_of}
+
+pub marked_there : (tags : List Tag) (i : ℕ) (t : Tag) → slice_get tags i ≡ Some t
+    → tags_of (slice_set tags i (record t { marked = true })) ≡ mark_tag i (tags_of tags)
+marked_there [] zero t e = cc
+marked_there [] (suc i) t e = cc
+marked_there (u ∷ tags) zero t e = (let same : u ≡ t = cc in ap (λ v. tags_of (record v { marked = true } ∷ tags)) (sym same))
+marked_there (u ∷ tags) (suc i) t e = ap (λ l. Rattle.p9_lang.specs.Types.tag_of u ∷ l) (marked_there tags i t e)
+
+pub marked_nowhere : (tags : List Tag) (i : ℕ) → length tags ≤ i → tags_of tags ≡ mark_tag i (tags_of tags)
+marked_nowhere [] zero h = refl
+marked_nowhere [] (suc i) h = refl
+marked_nowhere (u ∷ tags) zero h = absurd (omega arith)
+marked_nowhere (u ∷ tags) (suc i) h =
+    let k : length tags ≤ i = omega arith in
+    ap (λ l. Rattle.p9_lang.specs.Types.tag_of u ∷ l) (marked_nowhere tags i k)
+
+mark_all : (marks : List (List ℕ)) (xs ys : List scopes.TagName) (tags : Tags)
+    → mark_tags marks (xs ++ ys) tags ≡ mark_tags marks xs (mark_tags marks ys tags)
+mark_all marks [] ys tags = refl
+mark_all marks (t ∷ xs) ys tags =
+    ap (λ r. if is_among marks t.name && not (is_enumeration t.keyword) then mark_tag t.number r else r) (mark_all marks xs ys tags)
+
+level_end : (ts : List TagName) (t : TagName) → tag_level_of (ts ++ t ∷ []) ≡ tag_level_of ts ++ tag_name_of t ∷ []
+level_end [] t = refl
+level_end (u ∷ ts) t = ap (λ l. tag_name_of u ∷ l) (level_end ts t)
+
+-- the oldest of a level is marked first
+pub oldest_marked : (marks : List (List ℕ)) (t : TagName) (ts : List TagName) (tags : Tags)
+    → mark_tags marks (tag_level_of (reverse ts)) (mark_tags marks (tag_name_of t ∷ []) tags)
+    ≡ mark_tags marks (tag_level_of (reverse (t ∷ ts))) tags
+oldest_marked marks t ts tags =
+    sym (mark_all marks (tag_level_of (reverse ts)) (tag_name_of t ∷ []) tags)
+    ∙ ap (λ l. mark_tags marks l tags) (sym (level_end (reverse ts) t))
