@@ -38,7 +38,6 @@ fn nameless(alloc: Global) -> Ident
     }
 }
 
-#[tactic(auto, using(crate::proofs::Bodies::named_here, crate::proofs::Bodies::named_inside, crate::proofs::Bodies::named_nowhere, crate::proofs::Bodies::goes_inside))]
 fn declarator_name(alloc: Global, node: &Node) -> Result<Ident, NoMemory>
     ensures { IfOk result (λ name. name ≡ declarator_name (syntax_of node.now)) }
 {
@@ -54,7 +53,6 @@ fn declarator_name(alloc: Global, node: &Node) -> Result<Ident, NoMemory>
     }
 }
 
-#[tactic(auto, using(crate::proofs::Bodies::function_here, crate::proofs::Bodies::function_behind))]
 fn function_name(alloc: Global, parts: &[Node]) -> Result<Ident, NoMemory>
     ensures { IfOk result (λ name. name ≡ function_name (row_of parts.now)) }
 {
@@ -68,7 +66,6 @@ fn function_name(alloc: Global, parts: &[Node]) -> Result<Ident, NoMemory>
     Ok(nameless(alloc))
 }
 
-#[tactic(auto, using(crate::proofs::Bodies::body_there, crate::proofs::Bodies::no_body))]
 fn with_body(alloc: Global, names: Names, item: &Node) -> Result<Names, NoMemory>
     ensures { IfOk result (λ more. more ≡ names ++ body_name (syntax_of item.now)) }
 {
@@ -80,7 +77,6 @@ fn with_body(alloc: Global, names: Names, item: &Node) -> Result<Names, NoMemory
 }
 
 /// The names of the functions that have bodies.
-#[tactic(auto, using(crate::proofs::Bodies::bodies_next, crate::proofs::Bodies::bodies_over))]
 pub(crate) fn names_with_bodies(alloc: Global, items: &[Node]) -> Result<Names, NoMemory>
     ensures { IfOk result (λ names. names ≡ names_with_bodies (row_of items.now)) }
 {

@@ -32,7 +32,6 @@ fn is_marked(alloc: Global, marks: &Names, tag: &TagName) -> Result<bool, NoMemo
     Ok(false)
 }
 
-#[tactic(auto, using(crate::proofs::Marking::marked_there, crate::proofs::Marking::marked_nowhere))]
 fn mark(tags: &mut Vec<Tag>, at: usize)
     ensures { tags_of tags.new.items ≡ mark_tag at (tags_of tags.old.items) }
 {
@@ -41,7 +40,6 @@ fn mark(tags: &mut Vec<Tag>, at: usize)
     }
 }
 
-#[tactic(auto, using(crate::proofs::Marking::taken_next, crate::proofs::Marking::taken_all))]
 fn list_of(alloc: Global, tags: Tags) -> Result<Vec<Tag>, NoMemory>
     ensures { IfOk result (λ list. list.items ≡ tags.list) }
 {
@@ -55,7 +53,6 @@ fn list_of(alloc: Global, tags: Tags) -> Result<Vec<Tag>, NoMemory>
 }
 
 /// The structures and unions, of which those are marked that have one of these names at this level.
-#[tactic(auto, using(crate::proofs::Marking::marked_next, crate::proofs::Marking::unmarked_next))]
 pub(crate) fn mark_tags(
     alloc: Global,
     marks: &Names,

@@ -7,7 +7,6 @@ use p9_scopes::Names;
 use std::alloc::Global;
 
 /// These names.
-#[tactic(auto, using(crate::proofs::Naming::one_more, crate::proofs::Naming::all_there))]
 pub(crate) fn all_names(alloc: Global, list: &[Ident]) -> Result<Names, NoMemory>
     ensures { IfOk result (λ names. names ≡ list.now) }
 {

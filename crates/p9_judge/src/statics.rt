@@ -40,7 +40,6 @@ fn is_new(alloc: Global, so_far: &Names, declared: &Declared) -> Result<bool, No
 }
 
 /// The names that are declared static, each once, by their first declarations.
-#[tactic(auto, using(crate::proofs::Statics::old_name, crate::proofs::Statics::new_name, crate::proofs::Statics::no_names))]
 pub(crate) fn static_names(alloc: Global, level: &[Declared]) -> Result<Names, NoMemory>
     ensures { IfOk result (λ names. names ≡ static_names [] (level_of level.now)) }
 {
