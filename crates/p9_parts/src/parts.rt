@@ -76,7 +76,7 @@ impl Parts {
         ensures { OnOk result (self.new ≡ self.old ++ part ∷ []) }
     {
         let before = mem::replace(self, Parts::empty(alloc));
-        let _ = before.with(alloc, part)?;
+        *self = before.with(alloc, part)?;
         Ok(())
     }
 
