@@ -1,14 +1,14 @@
 -- What entries fill, by what is asked of their lists.
-use Rattle.std.proofs.Common.{◌≡◌, ◌≢◌, ◌≤◌, ◌<◌, ◌*◌, ℕ, zero, suc, Bool, true, false, cond, nat_lt, nat_le, List, [], ◌∷◌, slice_get, Option, Some, None, refl, sym, arith}
+use Rattle.std.proofs.Common.{◌≡◌, ◌≢◌, ◌<◌, ◌*◌, ℕ, zero, suc, true, false, cond, nat_lt, nat_le, List, [], ◌∷◌, slice_get, Option, Some, None, refl, sym, arith}
 use Rattle.std.proofs.lemmas.Bool.Decides.{nat_tests}
 use Rattle.p9_lang.specs.declared.tree.EntryBy.{EntryBy}
 use Rattle.p9_lang.specs.declared.tree.EntryBy.TheVariants as by
 use Rattle.p9_lang.specs.Types.{TypeTree, Void, Char, UChar, Short, UShort, Int, UInt, Long, ULong, Pointer, Array, Function, Tagged, Tags}
 use Rattle.p9_lang.specs.Conversions.{is_structure}
 use Rattle.p9_lang.specs.Layout.{Extent, layout, on_some, repeated, size_in, size_limit, is_within_limit}
-use Rattle.p9_lang.specs.Members.{Placed, direct_member}
+use Rattle.p9_lang.specs.Members.{Placed}
 use Rattle.p9_lang.specs.Entries as entries
-use Rattle.p9_lang.specs.Parts.{Role, Part, Fills, Outside}
+use Rattle.p9_lang.specs.Parts.{Part, Fills, Outside}
 use Rattle.p9_opening.specs.Filling.{filled, placing, placed_type, placed_number, is_spent, missing_rules}
 
 -- ARRAYS

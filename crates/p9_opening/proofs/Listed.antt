@@ -1,7 +1,6 @@
 -- What entries of a list are to it.
-use Rattle.std.proofs.Common.{◌≡◌, ℕ, List, Option, refl}
-use Rattle.p9_lang.specs.Parts.{Role, Plain, Whole, Declares, ParameterOf, InBraces, EntryOf, Fills, Assigns, Outside, Context, in_role, Part, Frame, next_position}
-use Rattle.p9_lang.specs.Types.{TypeTree}
+use Rattle.std.proofs.Common.{◌≡◌, List, refl}
+use Rattle.p9_lang.specs.Parts.{Role, Plain, Whole, Declares, ParameterOf, InBraces, EntryOf, Fills, Assigns, Outside, in_role, Part, Frame, next_position}
 use Rattle.p9_lang.specs.Opening.{list_context}
 use Rattle.p9_opening.specs.Lending.{listed_type}
 

@@ -4,7 +4,7 @@ use Rattle.std.specs.List.{HoldsAt, filter}
 use Rattle.std.specs.Cmp.Lexicographic.{pointwise}
 use Rattle.p9_lang.specs.declared.types.Member.{Member}
 use Rattle.p9_lang.specs.Names.{same_name}
-use Rattle.p9_lang.specs.Types.{MemberTree, TagTree, Tags, member_of, members_of, type_of}
+use Rattle.p9_lang.specs.Types.{MemberTree, TagTree, Tags, member_of, members_of}
 use Rattle.p9_lang.specs.Layout.{Extent, layout, nothing_yet, with_member}
 use Rattle.p9_lang.specs.Members.{Placed, or_empty, placed_from, placed_in_body, placed_in_tag, placed, direct_member}
 use Rattle.p9_opening.specs.Filling.{Placing, placing, body_members, tag_members, numbered, first_named}

@@ -10,6 +10,6 @@ returns-in-Function c = rw c.in-Function.is c.function_context.ensures
 pub returns-in_ok-context-in-Member : goal.returns-in_ok-context-in-Member
 returns-in_ok-context-in-Member c =
     elim c.in-Member.is [
-      inl a ↦ rw a.1 c.in_ok-context-in-Member.ensures
-    | inr b ↦ elim b [ inl d ↦ rw d.1 c.in_ok-context-in-Member.ensures | inr e ↦ rw e.1 c.in_ok-context-in-Member.ensures ]
+      | inl a ↦ rw a.1 c.in_ok-context-in-Member.ensures
+      | inr b ↦ elim b [ inl d ↦ rw d.1 c.in_ok-context-in-Member.ensures | inr e ↦ rw e.1 c.in_ok-context-in-Member.ensures ]
     ]
