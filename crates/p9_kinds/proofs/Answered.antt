@@ -1,8 +1,8 @@
 -- What an operation answers, by equal answers.
 use Rattle.std.proofs.Common.{◌≡◌, ℕ, ◌+◌, Bool, true, false, List, [], ◌∷◌, Result, Ok, Err, refl, sym, ap, ◌∙◌}
 use Rattle.std.proofs.lemmas.Option.{slice_get-map}
-use Rattle.p9_lang.specs.Types.{TypeTree, Void, Static}
-use Rattle.p9_lang.specs.Rules.{Broken}
+use Rattle.p9_lang.specs.Types.{TypeTree, Void, Static, TypeName}
+use Rattle.p9_lang.specs.Rules.{Rule, Broken}
 use Rattle.p9_lang.specs.Scopes.{Known}
 use Rattle.p9_lang.specs.Declarators.{Step, Names}
 use Rattle.p9_lang.specs.Parts as parts
@@ -25,6 +25,11 @@ pub plain_name : (x : List ℕ) (role : parts.Role) (s : Known) (steps : List St
     → is_block_static role ≡ false → steps ≡ step_at s (Names x) ∷ []
     → typeless [] (parts.Declarator steps) s ≡ judged_decl_name x role s
 plain_name x role s steps b e = rw (b, e)
+
+-- a named type, its node's type and meaning
+pub named_answer : (rules : List Rule) (t u v w : TypeTree) (s : Known) → u ≡ t → v ≡ t → w ≡ t
+    → has rules u (TypeName v) (parts.NamedType w) s ≡ has rules t (TypeName t) (parts.NamedType t) s
+named_answer rules t u v w s e f g = rw (e, f, g)
 
 -- parts by their places
 pub ruleset places = (slice_get-map)

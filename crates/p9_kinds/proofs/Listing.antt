@@ -1,10 +1,11 @@
 -- Parameters and members, a part at a time.
-use Rattle.std.proofs.Common.{◌≡◌, List, [], ◌∷◌, ◌++◌, map, reverse, refl, sym, ap, ◌∙◌, append_assoc}
+use Rattle.std.specs.Prelude.{◌↔◌, IsTrue}
+use Rattle.std.proofs.Common.{◌≡◌, Bool, true, false, List, [], ◌∷◌, ◌++◌, map, reverse, refl, sym, ap, ◌∙◌, append_assoc}
 use Rattle.std.proofs.lemmas.List.{reverse-append}
 use Rattle.p9_lang.specs.declared.types.Member.{Member}
 use Rattle.p9_lang.specs.Types.{TypeTree, MemberTree, member_of, members_of}
 use Rattle.p9_lang.specs.Parts as parts
-use Rattle.p9_lang.specs.Parts.{parameter_types, declared_members}
+use Rattle.p9_lang.specs.Parts.{parameter_types, declared_members, or_unnamed}
 use Rattle.p9_parts.specs.declared.part.Part.{Part}
 use Rattle.p9_parts.specs.Told.{part_of, parts_of}
 
@@ -65,3 +66,8 @@ pub members_step : (base : TypeTree) (xs ys all : List MemberTree) (old new : Li
     → old ≡ new ++ p ∷ [] → ys ≡ xs ++ declared_members base (part_of p ∷ [])
     → xs ++ declared_members base (parts_of (reverse old)) ≡ all → ys ++ declared_members base (parts_of (reverse new)) ≡ all
 members_step base xs ys all old new p e f g = one_more (declared_members base) xs ys all old new p (member_first base) e f g
+
+-- where some are declared, none is unnamed
+pub named_members : (base : TypeTree) (ms : List Member) (empty : Bool) → (IsTrue empty ↔ (ms ≡ [])) → empty ≡ false → members_of ms ≡ or_unnamed base (members_of ms)
+named_members base [] empty h e = let t : empty ≡ true = h.1 refl in cc
+named_members base (m ∷ ms) empty h e = refl

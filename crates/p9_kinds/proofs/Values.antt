@@ -1,5 +1,5 @@
 -- Values that are tested, switched on or returned.
-use Rattle.std.proofs.Common.{◌≡◌, ◌≤◌, ◌<◌, ℕ, zero, suc, Bool, ◌||◌, List, [], ◌∷◌, length, map, get_or, slice_get, Option, Some, None, MatchOption, Bor, refl, sym, ap, ◌∙◌, arith}
+use Rattle.std.proofs.Common.{◌≡◌, ◌≤◌, ◌<◌, ◌||◌, List, [], ◌∷◌, length, get_or, Some, refl, sym, ap, arith}
 use Rattle.p9_lang.specs.Types.{TypeTree, Void, Char, UChar, Short, UShort, Int, UInt, Long, ULong, Pointer, Array, Function, Tagged, Tags}
 use Rattle.p9_lang.specs.Conversions.{is_integer, is_scalar, is_array, is_function, decayed}
 use Rattle.p9_lang.specs.Rules.{Malformed}

@@ -18,7 +18,7 @@ ghost use Rattle.p9_parts.specs.Told.{frame_of, part_of, parts_of, rules_of};
 ghost use Rattle.p9_kinds.specs.Alone.{enumerator_alone};
 
 use crate::members::{declared_members, object_type, or_unnamed};
-use crate::nodes::{has, typeless};
+use crate::nodes::{added, has, typeless};
 use crate::steps::{malformed, reversed};
 use p9_base::NoMemory;
 use p9_declare::{Storage, TypingFault, adjusted, own_list};
@@ -248,9 +248,8 @@ fn enumerator(
         (specs.has [] Int Nothing (part_specs.Enumerator name.now (option_map told_constant value)) (known_of known.old)) }
 {
     let name = name.copied(alloc)?;
-    has(
+    added(
         known,
-        None,
         CType::Int,
         Bind::Nothing,
         Part::Enumerator { name, value },

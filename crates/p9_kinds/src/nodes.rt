@@ -1,5 +1,5 @@
 // Nodes with their types and meanings.
-ghost use Rattle.std.specs.Prelude.{◌≡◌, List};
+ghost use Rattle.std.specs.Prelude.{◌≡◌, List, []};
 ghost use Rattle.p9_lang.specs.Rules as rules;
 ghost use Rattle.p9_lang.specs.Types.{type_of, meant};
 ghost use Rattle.p9_lang.specs.Typing as specs;
@@ -15,9 +15,23 @@ use p9_operand::Rule;
 use p9_parts::Part;
 use p9_scopes::Known;
 
+/// The next node has this type and meaning, and is this part; it breaks no rule.
+pub(crate) fn added(
+    known: &mut Known,
+    ty: CType,
+    bind: Bind,
+    part: Part,
+) -> Result<Part, TypingFault>
+    ensures { Judges part_of result (known_of known.new)
+        (specs.has [] (type_of ty) (meant bind) (part_of part) (known_of known.old)) }
+{
+    known.add_node(ty, bind)?;
+    Ok(part)
+}
+
 /// The next node has this type and meaning, and is this part, unless it breaks a rule.
 #[tactic(auto, using(p9_operand::proofs::Leasts::unless_at_node))]
-pub fn has(
+pub(crate) fn has(
     known: &mut Known,
     rule: Option<Rule>,
     ty: CType,
@@ -32,17 +46,18 @@ pub fn has(
             node: known.next_node(),
             rule,
         }),
-        None => {
-            known.add_node(ty, bind)?;
-            Ok(part)
-        }
+        None => added(known, ty, bind, part),
     }
 }
 
 /// The next node has no type and stands for nothing, as that of a statement, and is this part, unless
 /// it breaks a rule.
 #[tactic(auto, using(p9_types::proofs::Shapes::type_of_void))]
-pub fn typeless(known: &mut Known, rule: Option<Rule>, part: Part) -> Result<Part, TypingFault>
+pub(crate) fn typeless(
+    known: &mut Known,
+    rule: Option<Rule>,
+    part: Part,
+) -> Result<Part, TypingFault>
     ensures { (broken : List rules.Rule) → told_least rule ≡ least broken → Judges part_of result (known_of known.new)
         (specs.typeless broken (part_of part) (known_of known.old)) }
 {

@@ -38,7 +38,7 @@ fn has_integer_value(ty: &CType) -> bool
 }
 
 /// The rule that a test breaks.
-pub fn test_rule(part: Option<&Part>) -> Option<Rule>
+pub(crate) fn test_rule(part: Option<&Part>) -> Option<Rule>
     ensures { told_least result ≡ least (specs.test_rules (option_map part_of (option_copied part.entry))) }
 {
     match part {
@@ -63,7 +63,7 @@ pub fn test_rule(part: Option<&Part>) -> Option<Rule>
 /// The rule that the test of a `for` breaks, where there is one: `first` says that an expression
 /// stands before it.
 
-pub fn loop_test_rule(first: bool, test: bool, parts: &[Part]) -> Option<Rule>
+pub(crate) fn loop_test_rule(first: bool, test: bool, parts: &[Part]) -> Option<Rule>
     ensures { told_least result ≡ least (specs.loop_test_rules first test (parts_of parts.now)) }
 {
     if !test {
@@ -73,7 +73,7 @@ pub fn loop_test_rule(first: bool, test: bool, parts: &[Part]) -> Option<Rule>
 }
 
 /// The rule that what is switched on breaks.
-pub fn switch_rule(part: Option<&Part>) -> Option<Rule>
+pub(crate) fn switch_rule(part: Option<&Part>) -> Option<Rule>
     ensures { told_least result ≡ least (specs.switch_rules (option_map part_of (option_copied part.entry))) }
 {
     match part {
@@ -145,7 +145,7 @@ fn result_rule(
 
 /// The rule that a `return` breaks in a function with this result. In the body of what is no function
 /// there is none.
-pub fn return_rule(
+pub(crate) fn return_rule(
     known: &Known,
     alloc: Global,
     result_type: &Option<CType>,
@@ -170,7 +170,7 @@ fn label_word(constant: Constant) -> u32
 }
 
 /// A case label of this constant.
-pub fn judged_case(known: &mut Known, constant: Constant) -> Result<Part, TypingFault>
+pub(crate) fn judged_case(known: &mut Known, constant: Constant) -> Result<Part, TypingFault>
     ensures { Judges part_of result (known_of known.new)
         (specs.judged_case (told_constant constant) (known_of known.old)) }
 {

@@ -13,7 +13,7 @@ ghost use Rattle.p9_parts.specs.Told.{role_of, part_of, parts_of};
 ghost use Rattle.p9_kinds.specs.Alone.{sized_alone};
 
 use crate::controls::sound;
-use crate::nodes::has;
+use crate::nodes::added;
 use p9_base::NoMemory;
 use p9_declare::{Shape, Step, TypingFault};
 use p9_lang::{Bind, CType, Ident};
@@ -85,9 +85,8 @@ pub(crate) fn judged_decl_name(
     let steps = name_step(known, alloc, name)?;
     if is_block_static(role) {
         let number = known.take_static()?;
-        return has(
+        return added(
             known,
-            None,
             CType::Void,
             Bind::Static(number),
             Part::Declarator(steps),

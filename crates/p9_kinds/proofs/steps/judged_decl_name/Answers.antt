@@ -1,4 +1,4 @@
-use Rattle.std.proofs.Common.{[], refl, sym}
+use Rattle.std.proofs.Common.{sym}
 use Rattle.p9_lang.specs.declared.types.CType.TheVariants as ctype
 use Rattle.p9_lang.specs.Types.{type_of}
 use Rattle.p9_types.proofs.Shapes.{type_of_void}
@@ -10,11 +10,11 @@ use Rattle.p9_kinds.proofs.steps.judged_decl_name.Goals as goal
 
 pub returns-then-is_block_static : goal.returns-then-is_block_static
 returns-then-is_block_static c =
-    λ names. judges_same part_of c.has.result (known_of c.has.new.known)
+    λ names. judges_same part_of c.added.result (known_of c.added.new.known)
     (static_name c.args.name.now (role_of names c.args.role.now) (known_of c.args.known.now) (known_of c.take_static.new.self)
     (steps_of c.in_ok-steps.steps.items) c.in_ok-number.number (type_of ctype.Void)
     (sym (c.if-is_block_static.ensures names)) c.in_ok-steps.ensures c.in_ok-number.ensures.number c.in_ok-number.ensures.known type_of_void)
-    (c.has.ensures [] refl)
+    c.added.ensures
 
 pub returns : goal.returns
 returns c =
