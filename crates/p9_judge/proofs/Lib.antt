@@ -1,5 +1,5 @@
 pub mod Nodes
-pub mod Bodies
-pub mod Statics
-pub mod Marking
+pub mod BodyNames
+pub mod StaticNames
+pub mod Marks
 pub mod Walking

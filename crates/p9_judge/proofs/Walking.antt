@@ -12,6 +12,7 @@ use Rattle.p9_lang.specs.Opening.{opened, context}
 use Rattle.p9_lang.specs.Declaring.{behind, broken_rules}
 use Rattle.p9_lang.specs.Typing.{judge, judge_parts, judge_items, judged, with_rules, role_rules}
 use Rattle.p9_operand.specs.Least.{least, unless_at, earlier_of}
+use Rattle.p9_operand.specs.declared.rule.Rule as declared
 use Rattle.p9_operand.specs.Told.{told_rule}
 use Rattle.p9_operand.proofs.Leasts.{unless_at_node, first_of_least}
 use Rattle.p9_declare.specs.declared.fault.TypingFault.{TypingFault}
@@ -19,30 +20,26 @@ use Rattle.p9_declare.specs.declared.fault.TypingFault.TheVariants as fault
 use Rattle.p9_declare.specs.Judging.{Judges, Leaves, TellsBroken}
 use Rattle.p9_declare.specs.Told.{told_fault}
 use Rattle.p9_declare.proofs.Judging.{fault_goes_on, told_same}
-use Rattle.p9_judge.specs.Walking.{judged_within, judged_inside, judged_part, Counts}
+use Rattle.p9_judge.specs.Walking.{judged_within, judged_inside, judged_part, Counts, CountsAt}
 use Rattle.p9_judge.proofs.Nodes.{syntax_of_out}
 
 -- COUNTS
 
+pub fault_any : (f : TypingFault) (nodes count : ℕ) → nodes ≡ count → CountsAt f nodes count
+fault_any (fault.Broken node rule) nodes count e = e
+fault_any fault.Memory nodes count e = tt
+
 pub counts_any : {A : Type 0} (r : Result A TypingFault) (nodes count : ℕ) → nodes ≡ count → Counts r nodes count
 counts_any (Ok x) nodes count e = e
-counts_any (Err (fault.Broken node rule)) nodes count e = e
-counts_any (Err fault.Memory) nodes count e = tt
+counts_any (Err f) nodes count e = fault_any f nodes count e
 
-pub counts_so : {A B : Type 0} (r : Result A TypingFault) (f : TypingFault) (a b m n : ℕ) → r ≡ Err f → (a ≡ b → m ≡ n) → Counts r a b
-    → Counts (Err {A = B} f) m n
-counts_so (Ok x) f a b m n e h k = cc
-counts_so (Err (fault.Broken node rule)) f a b m n e h k = counts_any (Err f) m n (h k)
-counts_so (Err fault.Memory) f a b m n e h k = by f (let z : fault.Memory ≡ f = cc in z)
-  where
-    by : (f : TypingFault) → fault.Memory ≡ f → Counts (Err f) m n
-    by (fault.Broken node rule) e = cc
-    by fault.Memory e = tt
+pub fault_counts_with : (f : TypingFault) (a b m n : ℕ) → (a ≡ b → m ≡ n) → CountsAt f a b → CountsAt f m n
+fault_counts_with (fault.Broken node rule) a b m n g h = g h
+fault_counts_with fault.Memory a b m n g h = tt
 
 pub counts_with : {A : Type 0} (r : Result A TypingFault) (a b m n : ℕ) → (a ≡ b → m ≡ n) → Counts r a b → Counts r m n
-counts_with (Ok x) a b m n f h = f h
-counts_with (Err (fault.Broken node rule)) a b m n f h = f h
-counts_with (Err fault.Memory) a b m n f h = tt
+counts_with (Ok x) a b m n g h = g h
+counts_with (Err f) a b m n g h = fault_counts_with f a b m n g h
 
 -- RULES OF THE NODE ITSELF
 
@@ -82,6 +79,28 @@ broken_too n broken b answer e h =
 pub told_some : {A : Type 0} (f : TypingFault) (b : Broken) (answer : Result A Broken) → told_fault f ≡ Some b → answer ≡ Err b → TellsBroken f answer
 told_some (fault.Broken node rule) b answer e h = (let same : at_node node (told_rule rule) ≡ b = cc in h ∙ ap Err (sym same))
 told_some fault.Memory b answer e h = cc
+
+pub fault_inside : (f : TypingFault) (node number n : ℕ) (first : declared.Rule) (rule : Option Rule) (broken : List Rule) (answer : Judged)
+    → f ≡ fault.Broken node first → node ≢ number → rule ≡ least broken → CountsAt f number n → TellsBroken f answer
+    → with_rules n broken answer ≡ Err (at_node node (told_rule first))
+fault_inside f node number n first rule broken answer e d h k t =
+    let same : number ≡ n = subst (λ x. CountsAt x number n) e k in
+    broken_inside n broken (at_node node (told_rule first)) answer (subst (λ x. TellsBroken x answer) e t) (λ z. d (z ∙ sym same))
+
+pub fault_too : (f also : TypingFault) (node number n : ℕ) (first : declared.Rule) (rule : Option Rule) (broken : List Rule) (answer : Judged)
+    → f ≡ fault.Broken node first → node ≡ number → rule ≡ least broken
+    → told_fault also ≡ Some (earlier_of (at_node node (told_rule first)) number rule)
+    → CountsAt f number n → TellsBroken f answer → TellsBroken also (with_rules n broken answer)
+fault_too f also node number n first rule broken answer e d h g k t =
+    let same : number ≡ n = subst (λ x. CountsAt x number n) e k in
+    told_some also (earlier_of (at_node node (told_rule first)) number rule) (with_rules n broken answer) g
+    (broken_too n broken (at_node node (told_rule first)) answer (subst (λ x. TellsBroken x answer) e t) (d ∙ same)
+    ∙ ap (λ o. Err (earlier_of (at_node node (told_rule first)) n o)) (sym h)
+    ∙ ap (λ m. Err (earlier_of (at_node node (told_rule first)) m rule)) (sym same))
+
+pub fault_counts : (f also : TypingFault) (node : ℕ) (first : declared.Rule) (nodes count : ℕ) → f ≡ fault.Broken node first
+    → CountsAt f nodes count → CountsAt also nodes count
+fault_counts f also node first nodes count e k = fault_any also nodes count (subst (λ x. CountsAt x nodes count) e k)
 
 -- STEPS
 

@@ -24,7 +24,11 @@ abbrev pub judged_part : Kind → Frame → List Part → Syntax → SyntaxRow �
 judged_part k f before t ts s = and_then (judge t (context k f before (kind_at t) s) s) (λ r. behind k f before r.0 ts r.1)
 
 -- so many nodes are counted, but for want of memory
+
+abbrev pub CountsAt : TypingFault → (nodes count : ℕ) → Type 0
+CountsAt (fault.Broken node rule) nodes count = nodes ≡ count
+CountsAt fault.Memory nodes count = Unit {0}
+
 abbrev pub Counts : {A : Type 0} → Result A TypingFault → (nodes count : ℕ) → Type 0
 Counts (Ok x) nodes count = nodes ≡ count
-Counts (Err (fault.Broken node rule)) nodes count = nodes ≡ count
-Counts (Err fault.Memory) nodes count = Unit {0}
+Counts (Err fault) nodes count = CountsAt fault nodes count

@@ -38,6 +38,7 @@ fn nameless(alloc: Global) -> Ident
     }
 }
 
+#[tactic(auto, using(crate::proofs::BodyNames::named_here, crate::proofs::BodyNames::named_inside, crate::proofs::BodyNames::named_nowhere, crate::proofs::Nodes::part_smaller))]
 fn declarator_name(alloc: Global, node: &Node) -> Result<Ident, NoMemory>
     ensures { IfOk result (λ name. name ≡ declarator_name (syntax_of node.now)) }
 {
@@ -53,25 +54,29 @@ fn declarator_name(alloc: Global, node: &Node) -> Result<Ident, NoMemory>
     }
 }
 
+#[tactic(auto, using(crate::proofs::BodyNames::declarator_here, crate::proofs::BodyNames::declarator_behind))]
 fn function_name(alloc: Global, parts: &[Node]) -> Result<Ident, NoMemory>
     ensures { IfOk result (λ name. name ≡ function_name (row_of parts.now)) }
 {
     let mut rest = parts;
     'parts: while let [part, after @ ..] = rest {
         if is_declarator(&part.kind) {
-            return declarator_name(alloc, part);
+            let name = declarator_name(alloc, part)?;
+            return Ok(name);
         }
         rest = after;
     }
     Ok(nameless(alloc))
 }
 
+#[tactic(auto, using(crate::proofs::BodyNames::body_there, crate::proofs::BodyNames::no_body))]
 fn with_body(alloc: Global, names: Names, item: &Node) -> Result<Names, NoMemory>
     ensures { IfOk result (λ more. more ≡ names ++ body_name (syntax_of item.now)) }
 {
     if is_function(&item.kind) {
         let name = function_name(alloc, item.parts.as_slice())?;
-        return names.with(alloc, name);
+        let more = names.with(alloc, name)?;
+        return Ok(more);
     }
     Ok(names)
 }

@@ -14,6 +14,7 @@ pub(crate) fn sum(a: usize, b: usize) -> Result<usize, NoMemory>
 
 /// So many nodes, and those of these trees. Trees that are nested more than so many levels deep are
 /// answered by want of memory.
+#[tactic(auto, using(crate::proofs::Nodes::counted))]
 pub(crate) fn count_with(count: usize, nodes: &[Node], levels: u32) -> Result<usize, NoMemory>
     ensures { IfOk result (λ n. n ≡ count + nodes_of_row (row_of nodes.now)) }
 {

@@ -16,7 +16,6 @@ use p9_scopes::{Finished, Known};
 use std::alloc::Global;
 
 // The module of a tree, whose items are judged.
-#[tactic(auto, using(crate::proofs::Files::typed))]
 fn module_of(alloc: Global, tree: Tree, known: Known) -> Result<Module, NoMemory>
     ensures { IfOk result (λ m. (m.tree ≡ tree) × (typing_in m ≡ typing_of tree.marks (known_of known))) }
 {
@@ -41,7 +40,6 @@ fn module_of(alloc: Global, tree: Tree, known: Known) -> Result<Module, NoMemory
 
 /// The module of a file's tree, or the first of its nodes, each after its parts, that breaks a rule,
 /// with the least that it breaks.
-#[tactic(auto, using(crate::proofs::Files::file_typed, crate::proofs::Files::file_broken))]
 pub fn type_file(alloc: Global, tree: Tree) -> Result<Module, TypingFault>
     ensures { Answers tree result }
 {

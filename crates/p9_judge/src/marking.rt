@@ -1,10 +1,10 @@
 // Structures and unions that are marked as incomplete.
-ghost use Rattle.std.specs.Prelude.{◌≡◌, ◌&&◌, not, reverse, IfOk};
+ghost use Rattle.std.specs.Prelude.{◌≡◌, ◌&&◌, ◌∷◌, [], not, reverse, IfOk, OnOk};
 ghost use Rattle.p9_lang.specs.Files.{mark_tag, mark_tags};
 ghost use Rattle.p9_lang.specs.Names.{is_among};
 ghost use Rattle.p9_lang.specs.Scopes.{is_enumeration};
 ghost use Rattle.p9_lang.specs.Types.{tags_of};
-ghost use Rattle.p9_scopes.specs.Seen.{keyword_of, tag_level_of};
+ghost use Rattle.p9_scopes.specs.Seen.{keyword_of, tag_name_of, tag_level_of};
 
 use p9_base::NoMemory;
 use p9_lang::{Tag, Tags};
@@ -32,6 +32,7 @@ fn is_marked(alloc: Global, marks: &Names, tag: &TagName) -> Result<bool, NoMemo
     Ok(false)
 }
 
+#[tactic(auto, using(crate::proofs::Marks::marked_there, crate::proofs::Marks::marked_nowhere))]
 fn mark(tags: &mut Vec<Tag>, at: usize)
     ensures { tags_of tags.new.items ≡ mark_tag at (tags_of tags.old.items) }
 {
@@ -52,7 +53,24 @@ fn list_of(alloc: Global, tags: Tags) -> Result<Vec<Tag>, NoMemory>
     Ok(list)
 }
 
+// The structure or union of a tag is marked, if the tag has one of these names.
+fn mark_named(
+    alloc: Global,
+    marks: &Names,
+    named: &TagName,
+    tags: &mut Vec<Tag>,
+) -> Result<(), NoMemory>
+    ensures { OnOk result (tags_of tags.new.items
+        ≡ mark_tags marks.now (tag_name_of named.now ∷ []) (tags_of tags.old.items)) }
+{
+    if is_marked(alloc, marks, named)? {
+        mark(tags, named.number as usize);
+    }
+    Ok(())
+}
+
 /// The structures and unions, of which those are marked that have one of these names at this level.
+#[tactic(auto, using(crate::proofs::Marks::oldest_marked))]
 pub(crate) fn mark_tags(
     alloc: Global,
     marks: &Names,
@@ -64,10 +82,8 @@ pub(crate) fn mark_tags(
 {
     let mut list = list_of(alloc, tags)?;
     let mut rest = level;
-    'tags: while let [tag, after @ ..] = rest {
-        if is_marked(alloc, marks, tag)? {
-            mark(&mut list, tag.number as usize);
-        }
+    'tags: while let [named, after @ ..] = rest {
+        mark_named(alloc, marks, named, &mut list)?;
         rest = after;
     }
     Ok(Tags {

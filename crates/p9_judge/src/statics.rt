@@ -1,10 +1,11 @@
 // The names that a file declares static.
-ghost use Rattle.std.specs.Prelude.{◌≡◌, ◌&&◌, [], not, IfOk};
+ghost use Rattle.std.specs.Prelude.{◌≡◌, ◌&&◌, ◌∷◌, ◌++◌, [], List, not, IfOk};
 ghost use Rattle.p9_lang.specs.Declarators.{is_outer};
 ghost use Rattle.p9_lang.specs.Files.{static_names};
 ghost use Rattle.p9_lang.specs.Names.{is_among};
 ghost use Rattle.p9_lang.specs.Types.{meant};
-ghost use Rattle.p9_scopes.specs.Seen.{level_of};
+ghost use Rattle.p9_lang.specs.Scopes as scopes;
+ghost use Rattle.p9_scopes.specs.Seen.{declared_of, level_of};
 
 use p9_base::NoMemory;
 use p9_lang::Bind;
@@ -39,6 +40,19 @@ fn is_new(alloc: Global, so_far: &Names, declared: &Declared) -> Result<bool, No
     Ok(!has)
 }
 
+// The names with the one of a declaration, if it is static and new.
+#[tactic(auto, using(crate::proofs::StaticNames::new_static, crate::proofs::StaticNames::old_static))]
+fn with_static(alloc: Global, names: Names, declared: &Declared) -> Result<Names, NoMemory>
+    ensures { IfOk result (λ more. (after : List scopes.Declared)
+        → more ++ static_names more after ≡ names ++ static_names names (declared_of declared.now ∷ after)) }
+{
+    if is_new(alloc, &names, declared)? {
+        let more = names.with(alloc, declared.name.copied(alloc)?)?;
+        return Ok(more);
+    }
+    Ok(names)
+}
+
 /// The names that are declared static, each once, by their first declarations.
 pub(crate) fn static_names(alloc: Global, level: &[Declared]) -> Result<Names, NoMemory>
     ensures { IfOk result (λ names. names ≡ static_names [] (level_of level.now)) }
@@ -46,9 +60,7 @@ pub(crate) fn static_names(alloc: Global, level: &[Declared]) -> Result<Names, N
     let mut names = Names::new(alloc);
     let mut rest = level;
     'names: while let [declared, after @ ..] = rest {
-        if is_new(alloc, &names, declared)? {
-            names = names.with(alloc, declared.name.copied(alloc)?)?;
-        }
+        names = with_static(alloc, names, declared)?;
         rest = after;
     }
     Ok(names)

@@ -10,9 +10,9 @@ ghost use Rattle.p9_lang.specs.Typing as specs;
 ghost use Rattle.p9_operand.specs.Least.{least};
 ghost use Rattle.p9_operand.specs.Told.{told_least};
 ghost use Rattle.p9_scopes.specs.State.{known_of};
-ghost use Rattle.p9_declare.specs.Judging.{Judges, Leaves};
+ghost use Rattle.p9_declare.specs.Judging.{Judges, Leaves, TellsBroken};
 ghost use Rattle.p9_parts.specs.Told.{context_of, frame_of, part_of, parts_of};
-ghost use Rattle.p9_judge.specs.Walking.{judged_within, judged_inside, judged_part, Counts};
+ghost use Rattle.p9_judge.specs.Walking.{judged_inside, judged_part, Counts, CountsAt};
 
 use crate::counting::{count_with, sum};
 use p9_behind::behind;
@@ -28,7 +28,26 @@ use std::alloc::Global;
 // Trees that are nested more deeply are answered by want of memory: the stack is memory too.
 const LEVELS: u32 = 10_000;
 
-// A node that may break a rule by its role too.
+// The first rule that is broken, where the node of this number may break a rule by its role too.
+#[tactic(auto, using(crate::proofs::Walking::fault_inside, crate::proofs::Walking::fault_too, crate::proofs::Walking::fault_counts))]
+fn fault_with_rule(number: usize, rule: Option<Rule>, fault: TypingFault) -> TypingFault
+    ensures tells { (n : ℕ) (broken : List rules.Rule) (answer : Judged) → told_least rule ≡ least broken
+        → CountsAt fault number n → TellsBroken fault answer → TellsBroken result (with_rules n broken answer) }
+    ensures counts { (nodes count : ℕ) → CountsAt fault nodes count → CountsAt result nodes count }
+{
+    match fault {
+        TypingFault::Broken { node, rule: first } => {
+            if node == number {
+                also_broken(TypingFault::Broken { node, rule: first }, number, rule)
+            } else {
+                TypingFault::Broken { node, rule: first }
+            }
+        }
+        TypingFault::Memory => TypingFault::Memory,
+    }
+}
+
+// A node of this number, which may break a rule by its role too.
 fn with_rule(
     number: usize,
     rule: Option<Rule>,
@@ -43,15 +62,7 @@ fn with_rule(
             Some(rule) => Err(TypingFault::Broken { node: number, rule }),
             None => Ok(part),
         },
-        Err(TypingFault::Broken { node, rule: first }) => {
-            let fault = TypingFault::Broken { node, rule: first };
-            if node == number {
-                Err(also_broken(fault, number, rule))
-            } else {
-                Err(fault)
-            }
-        }
-        Err(TypingFault::Memory) => Err(TypingFault::Memory),
+        Err(fault) => Err(fault_with_rule(number, rule, fault)),
     }
 }
 
