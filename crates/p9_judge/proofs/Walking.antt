@@ -4,7 +4,7 @@ use Rattle.std.specs.Prelude.{if◌then◌else◌}
 use Rattle.std.proofs.lemmas.Bool.Decides.{nat_tests}
 use Rattle.p9_lang.specs.declared.tree.Kind.{Kind}
 use Rattle.p9_lang.specs.declared.tree.Node.{Node, out-Node}
-use Rattle.p9_lang.specs.Trees.{node, none, more, Syntax, SyntaxRow, syntax_of, row_of, nodes_of, nodes_of_row}
+use Rattle.p9_lang.specs.Trees.{none, more, Syntax, SyntaxRow, syntax_of, row_of, nodes_of, nodes_of_row}
 use Rattle.p9_lang.specs.Rules.{Rule, Broken, at_node, and_then, first_of, unless}
 use Rattle.p9_lang.specs.Scopes.{Known, next_node}
 use Rattle.p9_lang.specs.Parts.{Context, Part, Frame, Judged, kind_at, file_context}
@@ -26,7 +26,7 @@ use Rattle.p9_judge.proofs.Nodes.{syntax_of_out}
 -- COUNTS
 
 pub fault_any : (f : TypingFault) (nodes count : ℕ) → nodes ≡ count → CountsAt f nodes count
-fault_any (fault.Broken node rule) nodes count e = e
+fault_any (fault.Broken at rule) nodes count e = e
 fault_any fault.Memory nodes count e = tt
 
 pub counts_any : {A : Type 0} (r : Result A TypingFault) (nodes count : ℕ) → nodes ≡ count → Counts r nodes count
@@ -34,7 +34,7 @@ counts_any (Ok x) nodes count e = e
 counts_any (Err f) nodes count e = fault_any f nodes count e
 
 pub fault_counts_with : (f : TypingFault) (a b m n : ℕ) → (a ≡ b → m ≡ n) → CountsAt f a b → CountsAt f m n
-fault_counts_with (fault.Broken node rule) a b m n g h = g h
+fault_counts_with (fault.Broken at rule) a b m n g h = g h
 fault_counts_with fault.Memory a b m n g h = tt
 
 pub counts_with : {A : Type 0} (r : Result A TypingFault) (a b m n : ℕ) → (a ≡ b → m ≡ n) → Counts r a b → Counts r m n
@@ -77,30 +77,30 @@ broken_too n broken b answer e h =
     broken_before n broken b answer e ∙ ap (λ t. if t then Err (earlier_of b n (least broken)) else Err b) (equal b.node n h)
 
 pub told_some : {A : Type 0} (f : TypingFault) (b : Broken) (answer : Result A Broken) → told_fault f ≡ Some b → answer ≡ Err b → TellsBroken f answer
-told_some (fault.Broken node rule) b answer e h = (let same : at_node node (told_rule rule) ≡ b = cc in h ∙ ap Err (sym same))
+told_some (fault.Broken at rule) b answer e h = (let same : at_node at (told_rule rule) ≡ b = cc in h ∙ ap Err (sym same))
 told_some fault.Memory b answer e h = cc
 
-pub fault_inside : (f : TypingFault) (node number n : ℕ) (first : declared.Rule) (rule : Option Rule) (broken : List Rule) (answer : Judged)
-    → f ≡ fault.Broken node first → node ≢ number → rule ≡ least broken → CountsAt f number n → TellsBroken f answer
-    → with_rules n broken answer ≡ Err (at_node node (told_rule first))
-fault_inside f node number n first rule broken answer e d h k t =
+pub fault_inside : (f : TypingFault) (at number n : ℕ) (first : declared.Rule) (rule : Option Rule) (broken : List Rule) (answer : Judged)
+    → f ≡ fault.Broken at first → at ≢ number → rule ≡ least broken → CountsAt f number n → TellsBroken f answer
+    → with_rules n broken answer ≡ Err (at_node at (told_rule first))
+fault_inside f at number n first rule broken answer e d h k t =
     let same : number ≡ n = subst (λ x. CountsAt x number n) e k in
-    broken_inside n broken (at_node node (told_rule first)) answer (subst (λ x. TellsBroken x answer) e t) (λ z. d (z ∙ sym same))
+    broken_inside n broken (at_node at (told_rule first)) answer (subst (λ x. TellsBroken x answer) e t) (λ z. d (z ∙ sym same))
 
-pub fault_too : (f also : TypingFault) (node number n : ℕ) (first : declared.Rule) (rule : Option Rule) (broken : List Rule) (answer : Judged)
-    → f ≡ fault.Broken node first → node ≡ number → rule ≡ least broken
-    → told_fault also ≡ Some (earlier_of (at_node node (told_rule first)) number rule)
+pub fault_too : (f also : TypingFault) (at number n : ℕ) (first : declared.Rule) (rule : Option Rule) (broken : List Rule) (answer : Judged)
+    → f ≡ fault.Broken at first → at ≡ number → rule ≡ least broken
+    → told_fault also ≡ Some (earlier_of (at_node at (told_rule first)) number rule)
     → CountsAt f number n → TellsBroken f answer → TellsBroken also (with_rules n broken answer)
-fault_too f also node number n first rule broken answer e d h g k t =
+fault_too f also at number n first rule broken answer e d h g k t =
     let same : number ≡ n = subst (λ x. CountsAt x number n) e k in
-    told_some also (earlier_of (at_node node (told_rule first)) number rule) (with_rules n broken answer) g
-    (broken_too n broken (at_node node (told_rule first)) answer (subst (λ x. TellsBroken x answer) e t) (d ∙ same)
-    ∙ ap (λ o. Err (earlier_of (at_node node (told_rule first)) n o)) (sym h)
-    ∙ ap (λ m. Err (earlier_of (at_node node (told_rule first)) m rule)) (sym same))
+    told_some also (earlier_of (at_node at (told_rule first)) number rule) (with_rules n broken answer) g
+    (broken_too n broken (at_node at (told_rule first)) answer (subst (λ x. TellsBroken x answer) e t) (d ∙ same)
+    ∙ ap (λ o. Err (earlier_of (at_node at (told_rule first)) n o)) (sym h)
+    ∙ ap (λ m. Err (earlier_of (at_node at (told_rule first)) m rule)) (sym same))
 
-pub fault_counts : (f also : TypingFault) (node : ℕ) (first : declared.Rule) (nodes count : ℕ) → f ≡ fault.Broken node first
+pub fault_counts : (f also : TypingFault) (at : ℕ) (first : declared.Rule) (nodes count : ℕ) → f ≡ fault.Broken at first
     → CountsAt f nodes count → CountsAt also nodes count
-fault_counts f also node first nodes count e k = fault_any also nodes count (subst (λ x. CountsAt x nodes count) e k)
+fault_counts f also at first nodes count e k = fault_any also nodes count (subst (λ x. CountsAt x nodes count) e k)
 
 -- STEPS
 

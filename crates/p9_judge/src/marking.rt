@@ -70,7 +70,6 @@ fn mark_named(
 }
 
 /// The structures and unions, of which those are marked that have one of these names at this level.
-#[tactic(auto, using(crate::proofs::Marks::oldest_marked))]
 pub(crate) fn mark_tags(
     alloc: Global,
     marks: &Names,

@@ -1,0 +1,5 @@
+use Rattle.p9_judge.proofs.Marks.{marked_there}
+use Rattle.p9_judge.proofs.marking.mark.Goals as goal
+
+pub returns-then-at-len : goal.returns-then-at-len
+returns-then-at-len c = marked_there c.args.tags.now.items c.args.at c.index_mut.result.now c.index_mut.ensures.value
