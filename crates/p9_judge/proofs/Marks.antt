@@ -1,5 +1,5 @@
 -- Structures and unions that are marked, one after the other.
-use Rattle.std.proofs.Common.{◌≡◌, ◌≤◌, ◌<◌, ℕ, zero, suc, ◌&&◌, not, Bool, true, false, List, [], ◌∷◌, ◌++◌, length, map, reverse, slice_get, slice_set, Some, refl, sym, ap, ◌∙◌, arith}
+use Rattle.std.proofs.Common.{◌≡◌, ◌≤◌, ◌<◌, ℕ, zero, suc, ◌&&◌, not, Bool, true, false, List, [], ◌∷◌, ◌++◌, length, get_or, map, reverse, slice_get, slice_set, Some, refl, sym, ap, ◌∙◌, arith}
 use Rattle.std.specs.Prelude.{if◌then◌else◌}
 use Rattle.std.proofs.lemmas.List.{reverse-append}
 use Rattle.p9_lang.specs.declared.types.Tag.{Tag}
@@ -11,12 +11,12 @@ use Rattle.p9_lang.specs.Types.{Tags, tag_of, tags_of}
 use Rattle.p9_scopes.specs.declared.tag.TagName.{TagName}
 use Rattle.p9_scopes.specs.Seen.{tag_name_of, tag_level_of}
 
-pub marked_there : (tags : List Tag) (i : ℕ) (t : Tag) → slice_get tags i ≡ Some t
+pub marked_there : (tags : List Tag) (i : ℕ) (t : Tag) → i < length tags → t ≡ get_or tags i t
     → tags_of (slice_set tags i (record t { marked = true })) ≡ mark_tag i (tags_of tags)
-marked_there [] zero t e = cc
-marked_there [] (suc i) t e = cc
-marked_there (u ∷ tags) zero t e = (let same : u ≡ t = cc in ap (λ v. tags_of (record v { marked = true } ∷ tags)) (sym same))
-marked_there (u ∷ tags) (suc i) t e = ap (λ l. tag_of u ∷ l) (marked_there tags i t e)
+marked_there [] zero t h e = absurd (omega arith)
+marked_there [] (suc i) t h e = absurd (omega arith)
+marked_there (u ∷ tags) zero t h e = ap (λ v. tag_of (record v { marked = true }) ∷ tags_of tags) e
+marked_there (u ∷ tags) (suc i) t h e = let k : i < length tags = omega arith in ap (λ l. tag_of u ∷ l) (marked_there tags i t k e)
 
 pub marked_nowhere : (tags : List Tag) (i : ℕ) → length tags ≤ i → tags_of tags ≡ mark_tag i (tags_of tags)
 marked_nowhere [] zero h = refl

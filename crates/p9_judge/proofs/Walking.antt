@@ -21,7 +21,7 @@ use Rattle.p9_declare.specs.Judging.{Judges, Leaves, TellsBroken}
 use Rattle.p9_declare.specs.Told.{told_fault}
 use Rattle.p9_declare.proofs.Judging.{fault_goes_on, told_same}
 use Rattle.p9_judge.specs.Walking.{judged_within, judged_inside, judged_part, Counts, CountsAt}
-use Rattle.p9_judge.proofs.Nodes.{syntax_of_out}
+use Rattle.p9_judge.proofs.Nodes.{syntax_of_out, counted}
 
 -- COUNTS
 
@@ -163,6 +163,40 @@ pub node_judged : {A : Type 0} (view : A → Part) (r : Result A TypingFault) (q
     (judged_inside (out-Node n).kind (row_of (out-Node n).parts) c s))
     → Judges view r q (judge (syntax_of n) c s)
 node_judged view r q n c s j = judges_same view r q _ (judge (syntax_of n) c s) (sym (ap (λ t. judge t c s) (syntax_of_out n))) j
+
+number_there : (n : Node) (slice : List Node) (number first inside next : ℕ) → slice ≡ (out-Node n).parts → first ≡ next → number ≡ first + inside
+    → inside ≡ 0 + nodes_of_row (row_of slice) → number ≡ next + nodes_of_row (row_of (out-Node n).parts)
+number_there n slice number first inside next e f g h =
+    let k : nodes_of_row (row_of slice) ≡ nodes_of_row (row_of (out-Node n).parts) = ap (λ ns. nodes_of_row (row_of ns)) e in
+    omega arith
+
+pub node_walked : {A : Type 0} (view : A → Part) (r inner : Result A TypingFault) (q s : Known) (n : Node) (slice : List Node) (c : Context) (number first inside : ℕ)
+    → slice ≡ (out-Node n).parts → first ≡ next_node s → number ≡ first + inside
+    → Counts inner inside (0 + nodes_of_row (row_of slice))
+    → Judges view inner q (judged_inside (out-Node n).kind (row_of slice) c s)
+    → ((m : ℕ) (answer : Judged) → Counts inner number m → Judges view inner q answer
+    → Judges view r q (with_rules m (role_rules c.role (out-Node n).kind) answer))
+    → Judges view r q (judge (syntax_of n) c s)
+node_walked view r inner q s n slice c number first inside e f g h j own =
+    node_judged view r q n c s
+    (own (next_node s + nodes_of_row (row_of (out-Node n).parts)) (judged_inside (out-Node n).kind (row_of (out-Node n).parts) c s)
+    (counts_with inner inside (0 + nodes_of_row (row_of slice)) number (next_node s + nodes_of_row (row_of (out-Node n).parts))
+    (number_there n slice number first inside (next_node s) e f g) h)
+    (judges_same view inner q (judged_inside (out-Node n).kind (row_of slice) c s) (judged_inside (out-Node n).kind (row_of (out-Node n).parts) c s)
+    (ap (λ ns. judged_inside (out-Node n).kind (row_of ns) c s) e) j))
+
+count_there : (n : Node) (slice : List Node) (inside before after nodes : ℕ) → slice ≡ (out-Node n).parts → before ≡ nodes + inside → after ≡ before + 1
+    → inside ≡ 0 + nodes_of_row (row_of slice) → after ≡ nodes + nodes_of (syntax_of n)
+count_there n slice inside before after nodes e f g h =
+    let k : nodes_of_row (row_of slice) ≡ nodes_of_row (row_of (out-Node n).parts) = ap (λ ns. nodes_of_row (row_of ns)) e in
+    let m : nodes_of (syntax_of n) ≡ nodes_of_row (row_of (out-Node n).parts) + 1 = counted n in
+    omega arith
+
+pub node_counted : {A : Type 0} (inner : Result A TypingFault) (n : Node) (slice : List Node) (inside before after nodes : ℕ) → slice ≡ (out-Node n).parts
+    → before ≡ nodes + inside → after ≡ before + 1 → Counts inner inside (0 + nodes_of_row (row_of slice))
+    → Counts inner after (nodes + nodes_of (syntax_of n))
+node_counted inner n slice inside before after nodes e f g h =
+    counts_with inner inside (0 + nodes_of_row (row_of slice)) after (nodes + nodes_of (syntax_of n)) (count_there n slice inside before after nodes e f g) h
 
 -- ITEMS
 

@@ -1,6 +1,8 @@
 // The types of a file.
-ghost use Rattle.std.specs.Prelude.{◌≡◌, IfOk};
-ghost use Rattle.p9_lang.specs.Files.{typing_in, typing_of};
+ghost use Rattle.std.specs.Prelude.{◌≡◌, [], reverse, IfOk};
+ghost use Rattle.p9_lang.specs.Files.{mark_tags, static_names, typing_in, typing_of};
+ghost use Rattle.p9_lang.specs.Types.{tags_of};
+ghost use Rattle.p9_scopes.specs.Seen.{level_of, tag_level_of};
 ghost use Rattle.p9_scopes.specs.State.{known_of};
 ghost use Rattle.p9_judge.specs.Answers.{Answers};
 
@@ -11,30 +13,45 @@ use crate::statics::static_names;
 use crate::walk::judge_items;
 use p9_base::NoMemory;
 use p9_declare::TypingFault;
-use p9_lang::{Module, Tree};
-use p9_scopes::{Finished, Known};
+use p9_lang::{Ident, Module, Tags, Tree};
+use p9_scopes::{Finished, Known, NameLevel, TagLevel};
+use sqlite_items::Items;
 use std::alloc::Global;
+
+fn marked(
+    alloc: Global,
+    marks: &[Ident],
+    level: &TagLevel,
+    tags: Tags,
+) -> Result<Tags, NoMemory>
+    ensures { IfOk result (λ marked. tags_of marked.list ≡ mark_tags marks.now (tag_level_of level.now) (tags_of tags.list)) }
+{
+    let names = all_names(alloc, marks)?;
+    let tags = mark_tags(alloc, &names, level.as_slice(), tags)?;
+    Ok(tags)
+}
+
+fn statics_of(alloc: Global, level: &NameLevel) -> Result<Items<Ident>, NoMemory>
+    ensures { IfOk result (λ names. names ≡ static_names [] (reverse (level_of level.now))) }
+{
+    let names = static_names(alloc, level.as_slice())?;
+    Ok(names.into_items())
+}
 
 // The module of a tree, whose items are judged.
 fn module_of(alloc: Global, tree: Tree, known: Known) -> Result<Module, NoMemory>
-    ensures { IfOk result (λ m. (m.tree ≡ tree) × (typing_in m ≡ typing_of tree.marks (known_of known))) }
+    ensures tree { IfOk result (λ m. m.tree ≡ tree) }
+    ensures typing { IfOk result (λ m. typing_in m ≡ typing_of tree.marks (known_of known)) }
 {
-    let Finished {
-        types,
-        binds,
-        names,
-        tag_names,
-        tags,
-    } = known.finish(alloc);
-    let marks = all_names(alloc, tree.marks.as_slice())?;
-    let tags = mark_tags(alloc, &marks, tag_names.as_slice(), tags)?;
-    let statics = static_names(alloc, names.as_slice())?;
+    let finished = known.finish(alloc);
+    let tags = marked(alloc, tree.marks.as_slice(), &finished.tag_names, finished.tags)?;
+    let statics = statics_of(alloc, &finished.names)?;
     Ok(Module {
         tree,
         tags,
-        types,
-        binds,
-        statics: statics.into_items(),
+        types: finished.types,
+        binds: finished.binds,
+        statics,
     })
 }
 

@@ -41,7 +41,7 @@ fn is_new(alloc: Global, so_far: &Names, declared: &Declared) -> Result<bool, No
 }
 
 // The names with the one of a declaration, if it is static and new.
-#[tactic(auto, using(crate::proofs::StaticNames::new_static, crate::proofs::StaticNames::old_static))]
+#[tactic(auto, using(crate::proofs::StaticNames::old_static))]
 fn with_static(alloc: Global, names: Names, declared: &Declared) -> Result<Names, NoMemory>
     ensures { IfOk result (λ more. (after : List scopes.Declared)
         → more ++ static_names more after ≡ names ++ static_names names (declared_of declared.now ∷ after)) }
