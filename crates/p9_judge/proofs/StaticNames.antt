@@ -48,11 +48,10 @@ pub old_static : (names : List (List ℕ)) (d : Declared) (ds : List Declared)
 old_static names d ds e = ap (λ b. names ++ (if b then d.name ∷ static_names (d.name ∷ names) ds else static_names names ds)) (sym e)
 
 pub new_step : (names inner more : List (List ℕ)) (x : List ℕ) (d : Declared) (ds : List Declared) → inner ≡ names → more ≡ inner ++ x ∷ [] → x ≡ d.name
-    → (d.is_static && (is_outer d.means && not (is_among inner d.name))) ≡ true
+    → (d.is_static && (is_outer d.means && not (is_among names d.name))) ≡ true
     → more ++ static_names more ds ≡ names ++ static_names names (d ∷ ds)
 new_step names inner more x d ds e f g h =
-    ap (λ m. m ++ static_names m ds) (f ∙ ap (λ y. inner ++ y ∷ []) g) ∙ new_static inner d ds h
-    ∙ ap (λ l. l ++ static_names l (d ∷ ds)) e
+    ap (λ m. m ++ static_names m ds) (f ∙ ap (λ y. inner ++ y ∷ []) g ∙ ap (λ l. l ++ d.name ∷ []) e) ∙ new_static names d ds h
 
 -- the oldest first
 

@@ -43,14 +43,20 @@ fn module_of(alloc: Global, tree: Tree, known: Known) -> Result<Module, NoMemory
     ensures tree { IfOk result (λ m. m.tree ≡ tree) }
     ensures typing { IfOk result (λ m. typing_in m ≡ typing_of tree.marks (known_of known)) }
 {
-    let finished = known.finish(alloc);
-    let tags = marked(alloc, tree.marks.as_slice(), &finished.tag_names, finished.tags)?;
-    let statics = statics_of(alloc, &finished.names)?;
+    let Finished {
+        types,
+        binds,
+        names,
+        tag_names,
+        tags,
+    } = known.finish(alloc);
+    let tags = marked(alloc, tree.marks.as_slice(), &tag_names, tags)?;
+    let statics = statics_of(alloc, &names)?;
     Ok(Module {
         tree,
         tags,
-        types: finished.types,
-        binds: finished.binds,
+        types,
+        binds,
         statics,
     })
 }
