@@ -3,4 +3,3 @@ pub mod BodyNames
 pub mod StaticNames
 pub mod Marks
 pub mod Walking
-pub mod FileTypes

@@ -22,7 +22,7 @@ kind_there n = ap kind_at (syntax_of_out n)
 pub part_smaller : (n part : Node) (others : List Node) → (out-Node n).parts ≡ part ∷ others → nodes_of (syntax_of part) < nodes_of (syntax_of n)
 part_smaller n part others e =
     let k : nodes_of (syntax_of n) ≡ nodes_of (syntax_of part) + nodes_of_row (row_of others) + 1 =
-        counted n ∙ ap (λ ns. nodes_of_row (row_of ns) + 1) e in
+    counted n ∙ ap (λ ns. nodes_of_row (row_of ns) + 1) e in
     omega arith
 
 -- a node of a row, and those inside it
@@ -31,5 +31,5 @@ pub counts_next : (rest others : List Node) (n : Node) (so_far inside later all 
     → later + nodes_of_row (row_of others) ≡ all
 counts_next rest others n so_far inside later all e h i l =
     let k : so_far + (nodes_of_row (row_of (out-Node n).parts) + 1 + nodes_of_row (row_of others)) ≡ all =
-        sym (ap (λ ns. so_far + nodes_of_row (row_of ns)) e ∙ ap (λ c. so_far + (c + nodes_of_row (row_of others))) (counted n)) ∙ h in
+    sym (ap (λ ns. so_far + nodes_of_row (row_of ns)) e ∙ ap (λ c. so_far + (c + nodes_of_row (row_of others))) (counted n)) ∙ h in
     omega arith

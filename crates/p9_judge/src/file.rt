@@ -18,12 +18,7 @@ use p9_scopes::{Finished, Known, NameLevel, TagLevel};
 use sqlite_items::Items;
 use std::alloc::Global;
 
-fn marked(
-    alloc: Global,
-    marks: &[Ident],
-    level: &TagLevel,
-    tags: Tags,
-) -> Result<Tags, NoMemory>
+fn marked(alloc: Global, marks: &[Ident], level: &TagLevel, tags: Tags) -> Result<Tags, NoMemory>
     ensures { IfOk result (λ marked. tags_of marked.list ≡ mark_tags marks.now (tag_level_of level.now) (tags_of tags.list)) }
 {
     let names = all_names(alloc, marks)?;

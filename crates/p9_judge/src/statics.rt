@@ -17,11 +17,8 @@ fn is_outer(means: &Bind) -> bool
 {
     match means {
         Bind::Outer(_) => true,
-        Bind::Nothing
-        | Bind::Static(_)
-        | Bind::Auto(_)
-        | Bind::EnumValue(_)
-        | Bind::TypeName(_) => false,
+        Bind::Nothing | Bind::Static(_) | Bind::Auto(_) | Bind::EnumValue(_) | Bind::TypeName(_) =>
+            false,
     }
 }
 

@@ -111,7 +111,9 @@ fn judge_parts(
     let mut before = Parts::new(alloc)?;
     let mut rest = parts;
     'parts: while let [part, after @ ..] = rest {
-        match judge_part(known, alloc, kind, frame, names, &before, part, after, nodes, levels) {
+        match judge_part(
+            known, alloc, kind, frame, names, &before, part, after, nodes, levels,
+        ) {
             Ok(judged) => before.push(alloc, judged)?,
             Err(fault) => {
                 *nodes = count_with(*nodes, after, LEVELS)?;
@@ -168,7 +170,16 @@ fn judge_within(
     let rule = role_rule(&context.role, &node.kind);
     let parts = node.parts.as_slice();
     let mut inside: usize = 0;
-    let judged = judge_inside(known, alloc, &node.kind, parts, context, names, &mut inside, levels - 1);
+    let judged = judge_inside(
+        known,
+        alloc,
+        &node.kind,
+        parts,
+        context,
+        names,
+        &mut inside,
+        levels - 1,
+    );
     let number = sum(first, inside)?;
     let before = sum(*nodes, inside)?;
     *nodes = sum(before, 1)?;
