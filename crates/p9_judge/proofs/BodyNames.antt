@@ -1,12 +1,12 @@
 -- Names of functions that have bodies.
-use Rattle.std.proofs.Common.{◌≡◌, ◌+◌, ℕ, Bool, true, false, List, [], ◌∷◌, ◌++◌, Option, Some, None, unwrap_or, refl, sym, ap, ◌∙◌, append_assoc, append-nil}
+use Rattle.std.proofs.Common.{◌≡◌, ◌+◌, ℕ, Bool, true, false, List, [], ◌∷◌, ◌++◌, Option, Some, None, unwrap_or, refl, sym, ap, ◌∙◌, append-nil}
 use Rattle.std.specs.Prelude.{if◌then◌else◌}
 use Rattle.p9_lang.specs.declared.tree.Kind.{Kind}
 use Rattle.p9_lang.specs.declared.tree.Kind.TheVariants as kind
 use Rattle.p9_lang.specs.declared.tree.Node.{Node, out-Node}
-use Rattle.p9_lang.specs.Trees.{node, none, more, SyntaxRow, syntax_of, row_of}
+use Rattle.p9_lang.specs.Trees.{node, SyntaxRow, syntax_of, row_of}
 use Rattle.p9_lang.specs.Files.{declarator_name, first_name, function_name, body_name}
-use Rattle.p9_lang.specs.Parts.{is_declarator, kind_at}
+use Rattle.p9_lang.specs.Parts.{is_declarator}
 use Rattle.p9_judge.specs.Bodies.{own_name, is_function}
 use Rattle.p9_judge.proofs.Nodes.{syntax_of_out, kind_there}
 

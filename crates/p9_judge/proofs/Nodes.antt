@@ -2,7 +2,7 @@
 use Rattle.std.proofs.Common.{◌≡◌, ◌+◌, ◌<◌, ℕ, List, [], ◌∷◌, map, refl, sym, ap, ◌∙◌, arith}
 use Rattle.p9_lang.specs.declared.tree.Node.{Node, out-Node, fold_out-Node}
 use Rattle.p9_lang.specs.Parts.{kind_at}
-use Rattle.p9_lang.specs.Trees.{Syntax, node, none, more, row, syntax_step, syntax_of, row_of, nodes_of, nodes_of_row}
+use Rattle.p9_lang.specs.Trees.{Syntax, node, more, row, syntax_step, syntax_of, row_of, nodes_of, nodes_of_row}
 
 row-map : (ns : List Node) → row (map syntax_of ns) ≡ row_of ns
 row-map [] = refl

@@ -1,10 +1,9 @@
 -- Static names, each once.
-use Rattle.std.proofs.Common.{◌≡◌, ℕ, reverse, map, ◌&&◌, ◌||◌, not, Bool, true, false, List, [], ◌∷◌, ◌++◌, refl, sym, ap, ◌∙◌, append_assoc}
+use Rattle.std.proofs.Common.{◌≡◌, ℕ, reverse, ◌&&◌, ◌||◌, not, Bool, true, false, List, [], ◌∷◌, ◌++◌, refl, sym, ap, ◌∙◌, append_assoc}
 use Rattle.std.specs.Prelude.{if◌then◌else◌}
 use Rattle.std.proofs.lemmas.List.{reverse-append, reverse-reverse}
 use Rattle.p9_scopes.specs.declared.declared.Declared as seen
 use Rattle.p9_scopes.specs.Seen.{declared_of, level_of}
-use Rattle.std.specs.List.{list_any}
 use Rattle.std.proofs.lemmas.List.Folds.{list_any-append}
 use Rattle.p9_lang.specs.Declarators.{is_outer}
 use Rattle.p9_lang.specs.Files.{static_names}

@@ -1,26 +1,26 @@
 -- What the walk gives, by what its steps give.
-use Rattle.std.proofs.Common.{◌≡◌, ◌≢◌, ◌+◌, ◌==◌, ℕ, Bool, true, false, List, [], ◌∷◌, ◌++◌, map, Option, Some, None, Result, Ok, Err, refl, sym, ap, subst, ◌∙◌, arith}
+use Rattle.std.proofs.Common.{◌≡◌, ◌≢◌, ◌+◌, ◌==◌, ℕ, true, false, List, Option, Some, Result, Ok, Err, sym, ap, subst, ◌∙◌, arith}
 use Rattle.std.specs.Prelude.{if◌then◌else◌}
 use Rattle.std.proofs.lemmas.Bool.Decides.{nat_tests}
 use Rattle.p9_lang.specs.declared.tree.Kind.{Kind}
 use Rattle.p9_lang.specs.declared.tree.Node.{Node, out-Node}
-use Rattle.p9_lang.specs.Trees.{none, more, Syntax, SyntaxRow, syntax_of, row_of, nodes_of, nodes_of_row}
-use Rattle.p9_lang.specs.Rules.{Rule, Broken, at_node, and_then, first_of, unless}
+use Rattle.p9_lang.specs.Trees.{Syntax, SyntaxRow, syntax_of, row_of, nodes_of, nodes_of_row}
+use Rattle.p9_lang.specs.Rules.{Rule, Broken, at_node, and_then}
 use Rattle.p9_lang.specs.Scopes.{Known, next_node}
-use Rattle.p9_lang.specs.Parts.{Context, Part, Frame, Judged, kind_at, file_context}
-use Rattle.p9_lang.specs.Opening.{opened, context}
-use Rattle.p9_lang.specs.Declaring.{behind, broken_rules}
-use Rattle.p9_lang.specs.Typing.{judge, judge_parts, judge_items, judged, with_rules, role_rules}
+use Rattle.p9_lang.specs.Parts.{Context, Part, Frame, Judged, kind_at}
+use Rattle.p9_lang.specs.Opening.{context}
+use Rattle.p9_lang.specs.Declaring.{behind}
+use Rattle.p9_lang.specs.Typing.{judge, with_rules, role_rules}
 use Rattle.p9_operand.specs.Least.{least, unless_at, earlier_of}
 use Rattle.p9_operand.specs.declared.rule.Rule as declared
 use Rattle.p9_operand.specs.Told.{told_rule}
 use Rattle.p9_operand.proofs.Leasts.{unless_at_node, first_of_least}
 use Rattle.p9_declare.specs.declared.fault.TypingFault.{TypingFault}
 use Rattle.p9_declare.specs.declared.fault.TypingFault.TheVariants as fault
-use Rattle.p9_declare.specs.Judging.{Judges, Leaves, TellsBroken}
+use Rattle.p9_declare.specs.Judging.{Judges, TellsBroken}
 use Rattle.p9_declare.specs.Told.{told_fault}
 use Rattle.p9_declare.proofs.Judging.{fault_goes_on, told_same}
-use Rattle.p9_judge.specs.Walking.{judged_within, judged_inside, judged_part, Counts, CountsAt}
+use Rattle.p9_judge.specs.Walking.{judged_inside, judged_part, Counts, CountsAt}
 use Rattle.p9_judge.proofs.Nodes.{syntax_of_out, counted}
 
 -- COUNTS
@@ -51,10 +51,6 @@ pub rule_broken : (n number : ℕ) (broken : List Rule) (rule : Rule) (r : Part 
     → answer ≡ Ok r → with_rules n broken answer ≡ Err (at_node number rule)
 rule_broken n number broken rule r answer h k e =
     behind_part n broken r answer e ∙ ap (λ o. unless_at n o r) (sym h) ∙ ap (λ m. Err (at_node m rule)) (sym k)
-
-pub no_rule_broken : (n : ℕ) (broken : List Rule) (r : Part × Known) (answer : Judged) → None ≡ least broken → answer ≡ Ok r
-    → with_rules n broken answer ≡ Ok r
-no_rule_broken n broken r answer h e = behind_part n broken r answer e ∙ ap (λ o. unless_at n o r) (sym h)
 
 broken_before : (n : ℕ) (broken : List Rule) (b : Broken) (answer : Judged) → answer ≡ Err b
     → with_rules n broken answer ≡ (if b.node == n then Err (earlier_of b n (least broken)) else Err b)
@@ -122,41 +118,6 @@ part_broken b k f before t ts s c e h =
     fault_goes_on b (judge t (context k f before (kind_at t) s) s) (λ x. behind k f before x.0 ts x.1)
     (told_same b (ap (λ d. judge t d s) e) h)
 
-then_then : {A B C E : Type 0} (m : Result A E) (f : A → Result B E) (g : B → Result C E) → and_then m (λ x. and_then (f x) g) ≡ and_then (and_then m f) g
-then_then (Ok x) f g = refl
-then_then (Err e) f g = refl
-
-parts_by_first : (k : Kind) (f : Frame) (before : List Part) (t : Syntax) (ts : SyntaxRow) (s : Known)
-    → judge_parts k f before (more t ts) s ≡ and_then (judged_part k f before t ts s) (λ q. judge_parts k f (before ++ q.0 ∷ []) ts q.1)
-parts_by_first k f before t ts s =
-    then_then (judge t (context k f before (kind_at t) s) s) (λ r. behind k f before r.0 ts r.1) (λ q. judge_parts k f (before ++ q.0 ∷ []) ts q.1)
-
-pub parts_step : (k : Kind) (f : Frame) (before : List Part) (t : Syntax) (ts : SyntaxRow) (s next : Known) (p : Part)
-    → judged_part k f before t ts s ≡ Ok (p, next)
-    → judge_parts k f (before ++ p ∷ []) ts next ≡ judge_parts k f before (more t ts) s
-parts_step k f before t ts s next p e =
-    sym (parts_by_first k f before t ts s ∙ ap (λ m. and_then m (λ q. judge_parts k f (before ++ q.0 ∷ []) ts q.1)) e)
-
-pub parts_broken : (b : TypingFault) (k : Kind) (f : Frame) (before : List Part) (t : Syntax) (ts : SyntaxRow) (s : Known)
-    → TellsBroken b (judged_part k f before t ts s) → TellsBroken b (judge_parts k f before (more t ts) s)
-parts_broken b k f before t ts s h =
-    told_same b (sym (parts_by_first k f before t ts s))
-    (fault_goes_on b (judged_part k f before t ts s) (λ q. judge_parts k f (before ++ q.0 ∷ []) ts q.1) h)
-
--- a node that is opened
-pub inside_goes_on : {A : Type 0} (view : A → Part) (r : Result A TypingFault) (q : Known) (k : Kind) (parts : SyntaxRow) (c : Context) (s first next : Known) (f : Frame) (ps : List Part)
-    → opened k c s ≡ (f, first) → judge_parts k f [] parts first ≡ Ok (ps, next) → Judges view r q (judged k f ps next)
-    → Judges view r q (judged_inside k parts c s)
-inside_goes_on view r q k parts c s first next f ps e h j =
-    judges_same view r q (judged k f ps next) (judged_inside k parts c s)
-    (sym (ap (λ o. judged_within k parts o.0 o.1) e ∙ ap (λ m. and_then m (λ x. judged k f x.0 x.1)) h)) j
-
-pub inside_broken : (b : TypingFault) (k : Kind) (parts : SyntaxRow) (c : Context) (s first : Known) (f : Frame)
-    → opened k c s ≡ (f, first) → TellsBroken b (judge_parts k f [] parts first) → TellsBroken b (judged_inside k parts c s)
-inside_broken b k parts c s first f e h =
-    told_same b (sym (ap (λ o. judged_within k parts o.0 o.1) e))
-    (fault_goes_on b (judge_parts k f [] parts first) (λ x. judged k f x.0 x.1) h)
-
 pub node_judged : {A : Type 0} (view : A → Part) (r : Result A TypingFault) (q : Known) (n : Node) (c : Context) (s : Known)
     → Judges view r q
     (with_rules (next_node s + nodes_of_row (row_of (out-Node n).parts)) (role_rules c.role (out-Node n).kind)
@@ -197,13 +158,3 @@ pub node_counted : {A : Type 0} (inner : Result A TypingFault) (n : Node) (slice
     → Counts inner after (nodes + nodes_of (syntax_of n))
 node_counted inner n slice inside before after nodes e f g h =
     counts_with inner inside (0 + nodes_of_row (row_of slice)) after (nodes + nodes_of (syntax_of n)) (count_there n slice inside before after nodes e f g) h
-
--- ITEMS
-
-pub item_step : (item : Syntax) (items : SyntaxRow) (s next : Known) (p : Part) → judge item file_context s ≡ Ok (p, next)
-    → judge_items items next ≡ judge_items (more item items) s
-item_step item items s next p e = sym (ap (λ m. and_then m (λ r. judge_items items r.1)) e)
-
-pub item_broken : (b : TypingFault) (item : Syntax) (items : SyntaxRow) (s : Known) → TellsBroken b (judge item file_context s)
-    → TellsBroken b (judge_items (more item items) s)
-item_broken b item items s h = fault_goes_on b (judge item file_context s) (λ r. judge_items items r.1) h

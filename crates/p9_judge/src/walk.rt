@@ -1,7 +1,6 @@
 // The walk over the nodes of a file, each behind its parts.
 ghost use Rattle.std.specs.Prelude.{◌≡◌, ◌+◌, ℕ, List, []};
 ghost use Rattle.p9_lang.specs.Parts.{Judged, file_context};
-ghost use Rattle.p9_lang.specs.Parts as parts;
 ghost use Rattle.p9_lang.specs.Rules as rules;
 ghost use Rattle.p9_lang.specs.Scopes as scopes;
 ghost use Rattle.p9_lang.specs.Trees.{syntax_of, row_of, nodes_of, nodes_of_row};

@@ -1,9 +1,9 @@
-use Rattle.std.proofs.Common.{◌≡◌, ap, subst, sym, ◌∙◌}
+use Rattle.std.proofs.Common.{ap, subst, sym, ◌∙◌}
 use Rattle.p9_operand.specs.Told.{told_rule, told_least}
 use Rattle.p9_declare.specs.Judging.{Judges}
 use Rattle.p9_parts.specs.Told.{part_of}
 use Rattle.p9_judge.specs.Walking.{Counts}
-use Rattle.p9_judge.proofs.Walking.{rule_broken, no_rule_broken}
+use Rattle.p9_judge.proofs.Walking.{rule_broken}
 use Rattle.p9_judge.proofs.walk.with_rule.Goals as goal
 
 pub returns-in-Some-clause-judges : goal.returns-in-Some-clause-judges
