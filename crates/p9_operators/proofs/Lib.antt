@@ -1,4 +1,4 @@
 pub mod Shapes
-pub mod Parts
+pub mod Pieces
 pub mod Operands
 pub mod Conversions

@@ -1,10 +1,12 @@
 // Conversions, of assignments, arguments, results and casts.
-ghost use Rattle.std.specs.Prelude.{◌≡◌, IfOk};
+ghost use Rattle.std.specs.Prelude.{◌≡◌, ℕ, IfOk};
 ghost use Rattle.p9_lang.specs.Types.{type_of, tags_of};
 ghost use Rattle.p9_lang.specs.TagRules.{NoneContainsItself};
 ghost use Rattle.p9_lang.specs.Conversions.{Conversion, conversion};
 ghost use Rattle.p9_cmean.specs.Contents.{content_of};
 ghost use Rattle.p9_types.specs.Converted.{told_conversion};
+ghost use Rattle.p9_types.specs.Offsets.{kept_offset};
+ghost use Rattle.p9_tree.specs.Trees as trees;
 ghost use Rattle.p9_tree.specs.Trees.{tree_of};
 ghost use Rattle.p9_lower.specs.Operators as specs;
 ghost use Rattle.p9_operators.specs.Contents.{told_content};
@@ -20,9 +22,12 @@ use p9_tree::TTree;
 use p9_types::{Conv, convert};
 use std::alloc::Global;
 
-// A pointer to a structure's unnamed substructure, by that to the structure.
+// A pointer to a structure's unnamed substructure, by that to the structure. Of an offset beyond the limit
+// it is told only that it is there.
+#[tactic(auto, using(crate::proofs::Conversions::kept))]
 fn inner_pointer(alloc: Global, offset: Option<u32>, tree: TTree) -> Result<TTree, NoMemory>
-    ensures { IfOk result (λ t. MatchOption offset (λ _. ⊥) (λ n. tree_of t ≡ specs.moved_tree (tree_of tree) (trees.Const n))) }
+    ensures { (n : ℕ) → offset ≡ kept_offset n
+        → IfOk result (λ t. tree_of t ≡ specs.moved_tree (tree_of tree) (trees.Const n)) }
 {
     match offset {
         Some(offset) => {

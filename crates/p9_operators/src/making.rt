@@ -16,12 +16,7 @@ pub(crate) fn load(alloc: Global, width: Width, from: TTree) -> Result<TTree, No
 }
 
 #[tactic(auto, using(crate::proofs::Shapes::tree_shapes))]
-pub(crate) fn store(
-    alloc: Global,
-    width: Width,
-    to: TTree,
-    value: TTree,
-) -> Result<TTree, NoMemory>
+pub(crate) fn store(alloc: Global, width: Width, to: TTree, value: TTree) -> Result<TTree, NoMemory>
     ensures { IfOk result (λ t. tree_of t ≡ trees.Store width (tree_of to) (tree_of value)) }
 {
     let to = Boxed::new(alloc, to)?;

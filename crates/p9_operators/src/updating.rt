@@ -47,12 +47,7 @@ pub fn assigned_tree(
 }
 
 /// The right side of `op=` for a pointer, which is a number of elements of a size.
-pub fn elements_tree(
-    alloc: Global,
-    op: CBinary,
-    size: u32,
-    count: TTree,
-) -> Result<TTree, NoMemory>
+pub fn elements_tree(alloc: Global, op: CBinary, size: u32, count: TTree) -> Result<TTree, NoMemory>
     ensures { IfOk result (λ t. tree_of t ≡ elements_tree op size (tree_of count)) }
 {
     match op {
@@ -127,12 +122,7 @@ pub fn step_bytes(alloc: Global, ty: &CType, tags: &Tags) -> Result<u32, NoMemor
 }
 
 /// What `++` adds, or `--` where the flag is set.
-pub fn step_amount(
-    alloc: Global,
-    minus: bool,
-    ty: &CType,
-    tags: &Tags,
-) -> Result<u32, NoMemory>
+pub fn step_amount(alloc: Global, minus: bool, ty: &CType, tags: &Tags) -> Result<u32, NoMemory>
     requires { NoneContainsItself (tags_of tags.now.list) }
     ensures { IfOk result (λ amount. amount ≡ step_amount (tags_of tags.now.list) minus (type_of ty.now)) }
 {
