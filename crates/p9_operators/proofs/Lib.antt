@@ -1,4 +1,3 @@
 pub mod Shapes
 pub mod Pieces
-pub mod Operands
 pub mod Conversions

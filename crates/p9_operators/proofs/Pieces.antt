@@ -1,14 +1,18 @@
 -- Moved addresses and scaled numbers, by what is known of trees.
-use Rattle.std.proofs.Common.{◌≡◌, ℕ, Option, Some, None, refl, ap, sym, ◌∙◌}
+use Rattle.std.proofs.Common.{◌≡◌, ℕ, Some, None, refl, ap}
 use Rattle.p9_base.specs.Words.{word_sum, word_product}
 use Rattle.p9_tree.specs.declared.tree.BinOp.TheVariants as bin
-use Rattle.p9_tree.specs.Trees.{Tree, Const, Addr, Auto, Load, Store, Update, Copy, Un, Bin, Conv, Choose, Both, Step, Seq, Call}
+use Rattle.p9_tree.specs.Trees.{Tree, Const, Addr, Bin}
 use Rattle.p9_lower.specs.Operators.{moved_tree, scaled_tree}
 use Rattle.p9_operators.specs.Parts.{number_in, symbol_in}
 
+some_pair : (x y : ℕ × ℕ) → Some x ≡ Some y → x ≡ y
+some_pair x y e = cc
+
 pub moved_known : (address bytes : Tree) (symbol offset by : ℕ) → symbol_in address ≡ Some (symbol, offset) → number_in bytes ≡ Some by
     → moved_tree address bytes ≡ Addr symbol (word_sum offset by)
-moved_known (Addr s o) (Const n) symbol offset by e f = (let same : s ≡ symbol = cc in let also : o ≡ offset = cc in let too : n ≡ by = cc in cc)
+moved_known (Addr s o) (Const n) symbol offset by e f =
+    (let same = some_pair (s, o) (symbol, offset) e in let too : n ≡ by = cc in λ i. Addr (same i).0 (word_sum (same i).1 (too i)))
 moved_known (Addr s o) bytes symbol offset by e f = cc
 moved_known address bytes symbol offset by e f = cc
 

@@ -1,5 +1,5 @@
 // The operations on words that operators are.
-ghost use Rattle.std.specs.Prelude.{◌≡◌, true, IfOk};
+ghost use Rattle.std.specs.Prelude.{◌≡◌, true, if◌then◌else◌, IfOk};
 ghost use Rattle.p9_tree.specs.Trees as trees;
 ghost use Rattle.p9_tree.specs.Trees.{tree_of};
 ghost use Rattle.p9_lower.specs.Operators.{word_operator};
