@@ -13,6 +13,7 @@ use p9_lang::CType;
 use p9_tree::{TTree, Width};
 use std::alloc::Global;
 
+// What an object at an address is worth, by what it holds.
 fn content_tree(
     alloc: Global,
     content: Content,

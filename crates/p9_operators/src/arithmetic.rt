@@ -2,7 +2,7 @@
 ghost use Rattle.std.specs.Prelude.{◌≡◌, IfOk};
 ghost use Rattle.p9_lang.specs.Types.{type_of, tags_of};
 ghost use Rattle.p9_lang.specs.TagRules.{NoneContainsItself};
-ghost use Rattle.p9_lang.specs.Layout as specs_of_layout;
+ghost use Rattle.p9_lang.specs.Layout.{size_of};
 ghost use Rattle.p9_lang.specs.Constants.{works_unsigned};
 ghost use Rattle.p9_tree.specs.Trees as trees;
 ghost use Rattle.p9_tree.specs.Trees.{tree_of};
@@ -54,7 +54,7 @@ fn difference_tree(
 ) -> Result<TTree, NoMemory>
     requires { NoneContainsItself (tags_of tags.now.list) }
     ensures { IfOk result (λ t. tree_of t ≡ pointers_tree CBinary.Sub
-        (specs_of_layout.size_of (tags_of tags.now.list) (type_of target.now)) (tree_of left) (tree_of right)) }
+        (size_of (tags_of tags.now.list) (type_of target.now)) (tree_of left) (tree_of right)) }
 {
     let size = size_of(alloc, target, tags)?;
     let bytes = two(alloc, BinOp::Sub, left, right)?;
@@ -62,8 +62,9 @@ fn difference_tree(
     Ok(elements)
 }
 
-// Two pointers, of which the first is to a type.
-fn pointers_tree(
+/// An operation of two pointers, of which the first is to a type: a difference in elements, or else one on
+/// their words as unsigned ones.
+pub fn pointers_tree(
     alloc: Global,
     op: CBinary,
     target: &CType,
@@ -73,7 +74,7 @@ fn pointers_tree(
 ) -> Result<TTree, NoMemory>
     requires { NoneContainsItself (tags_of tags.now.list) }
     ensures { IfOk result (λ t. tree_of t ≡ pointers_tree op
-        (specs_of_layout.size_of (tags_of tags.now.list) (type_of target.now)) (tree_of left) (tree_of right)) }
+        (size_of (tags_of tags.now.list) (type_of target.now)) (tree_of left) (tree_of right)) }
 {
     match op {
         CBinary::Sub => {
@@ -113,7 +114,7 @@ fn forwards_tree(
 ) -> Result<TTree, NoMemory>
     requires { NoneContainsItself (tags_of tags.now.list) }
     ensures { IfOk result (λ t. tree_of t ≡ pointer_integer_tree CBinary.Add
-        (specs_of_layout.size_of (tags_of tags.now.list) (type_of target.now)) (tree_of pointer) (tree_of count)) }
+        (size_of (tags_of tags.now.list) (type_of target.now)) (tree_of pointer) (tree_of count)) }
 {
     let size = size_of(alloc, target, tags)?;
     let bytes = forward_tree(alloc, size, count)?;
@@ -131,7 +132,7 @@ fn backwards_tree(
 ) -> Result<TTree, NoMemory>
     requires { NoneContainsItself (tags_of tags.now.list) }
     ensures { IfOk result (λ t. tree_of t ≡ pointer_integer_tree CBinary.Sub
-        (specs_of_layout.size_of (tags_of tags.now.list) (type_of target.now)) (tree_of pointer) (tree_of count)) }
+        (size_of (tags_of tags.now.list) (type_of target.now)) (tree_of pointer) (tree_of count)) }
 {
     let size = size_of(alloc, target, tags)?;
     let bytes = scaled_tree(alloc, size, count)?;
@@ -139,8 +140,8 @@ fn backwards_tree(
     Ok(moved)
 }
 
-// A pointer to a type, and an integer.
-fn pointer_integer_tree(
+/// An operation of a pointer to a type and a number of elements.
+pub fn pointer_integer_tree(
     alloc: Global,
     op: CBinary,
     target: &CType,
@@ -150,7 +151,7 @@ fn pointer_integer_tree(
 ) -> Result<TTree, NoMemory>
     requires { NoneContainsItself (tags_of tags.now.list) }
     ensures { IfOk result (λ t. tree_of t ≡ pointer_integer_tree op
-        (specs_of_layout.size_of (tags_of tags.now.list) (type_of target.now)) (tree_of pointer) (tree_of count)) }
+        (size_of (tags_of tags.now.list) (type_of target.now)) (tree_of pointer) (tree_of count)) }
 {
     match op {
         CBinary::Add => {
@@ -193,7 +194,7 @@ fn added_tree(
 ) -> Result<TTree, NoMemory>
     requires { NoneContainsItself (tags_of tags.now.list) }
     ensures { IfOk result (λ t. tree_of t ≡ integer_pointer_tree CBinary.Add
-        (specs_of_layout.size_of (tags_of tags.now.list) (type_of target.now)) (tree_of count) (tree_of pointer)) }
+        (size_of (tags_of tags.now.list) (type_of target.now)) (tree_of count) (tree_of pointer)) }
 {
     let size = size_of(alloc, target, tags)?;
     let bytes = forward_tree(alloc, size, count)?;
@@ -201,8 +202,8 @@ fn added_tree(
     Ok(moved)
 }
 
-// An integer, and a pointer to a type.
-fn integer_pointer_tree(
+/// An operation of a number of elements and a pointer to a type.
+pub fn integer_pointer_tree(
     alloc: Global,
     op: CBinary,
     target: &CType,
@@ -212,7 +213,7 @@ fn integer_pointer_tree(
 ) -> Result<TTree, NoMemory>
     requires { NoneContainsItself (tags_of tags.now.list) }
     ensures { IfOk result (λ t. tree_of t ≡ integer_pointer_tree op
-        (specs_of_layout.size_of (tags_of tags.now.list) (type_of target.now)) (tree_of count) (tree_of pointer)) }
+        (size_of (tags_of tags.now.list) (type_of target.now)) (tree_of count) (tree_of pointer)) }
 {
     match op {
         CBinary::Add => {

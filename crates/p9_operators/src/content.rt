@@ -7,7 +7,7 @@ ghost use Rattle.p9_operators.specs.Contents.{told_content};
 use p9_lang::CType;
 
 /// An integer; a pointer; an array, a function or a structure, which isn't read; or nothing, of void.
-#[derive(Clone, Copy, PartialEq, Eq, Debug, Drop)]
+#[derive(Clone, Copy)]
 pub(crate) enum Content {
     Integer,
     Reference,

@@ -38,7 +38,7 @@ fn inner_pointer(alloc: Global, offset: Option<u32>, tree: TTree) -> Result<TTre
     }
 }
 
-// A value that is stored, which narrows it.
+// A value that is stored, by how it is converted.
 fn stored(alloc: Global, how: Conv, tree: TTree) -> Result<TTree, NoMemory>
     ensures { (c : Conversion) → how ≡ told_conversion c
         → IfOk result (λ t. tree_of t ≡ specs.stored_tree c (tree_of tree)) }
@@ -53,6 +53,7 @@ fn stored(alloc: Global, how: Conv, tree: TTree) -> Result<TTree, NoMemory>
     }
 }
 
+// A value of another type, by how it is converted.
 fn converted(alloc: Global, how: Conv, to: &CType, tree: TTree) -> Result<TTree, NoMemory>
     ensures { (c : Conversion) → how ≡ told_conversion c
         → IfOk result (λ t. tree_of t ≡ specs.converted_tree c (type_of to.now) (tree_of tree)) }
@@ -71,8 +72,9 @@ fn converted(alloc: Global, how: Conv, to: &CType, tree: TTree) -> Result<TTree,
     }
 }
 
-/// A value as an lvalue of a type holds it; `zero` says that it is the null constant.
-pub(crate) fn stored_tree(
+/// A value as it is stored into an lvalue of a type, which narrows it; `zero` says that it is the null
+/// constant. Its own type is that of an operand, whose arrays and functions have become pointers.
+pub fn stored_tree(
     alloc: Global,
     from: &CType,
     to: &CType,
@@ -108,6 +110,7 @@ pub fn passed_tree(
     Ok(value)
 }
 
+// A value that is cast, by what an object of the type that it is cast to holds.
 fn cast(alloc: Global, content: Content, ty: &CType, tree: TTree) -> Result<TTree, NoMemory>
     ensures { IfOk result (λ t. tree_of t ≡ specs.cast_tree (told_content content) (type_of ty.now) (tree_of tree)) }
 {

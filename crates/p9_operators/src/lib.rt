@@ -8,6 +8,7 @@ mod arithmetic;
 mod comparing;
 mod content;
 mod converting;
+mod laws;
 mod making;
 mod moving;
 mod parts;
@@ -16,9 +17,12 @@ mod updating;
 mod widths;
 
 pub use access::read_tree;
-pub use arithmetic::{binary_tree, works_unsigned};
+pub use arithmetic::{
+    binary_tree, integer_pointer_tree, pointer_integer_tree, pointers_tree, works_unsigned,
+};
 pub use comparing::word_operator;
-pub use converting::{cast_tree, passed_tree};
+pub use converting::{cast_tree, passed_tree, stored_tree};
+pub use laws::expressions_convert;
 pub use moving::{divided_tree, forward_tree, inner_tree, moved_tree, scaled_tree};
 pub use sizes::size_of;
 pub use updating::{assigned_tree, elements_tree, step_amount, step_bytes, updated_tree};

@@ -3,7 +3,6 @@ ghost use Rattle.std.specs.Prelude.{◌≡◌, IfOk};
 ghost use Rattle.p9_lang.specs.Types.{type_of, tags_of};
 ghost use Rattle.p9_lang.specs.TagRules.{NoneContainsItself};
 ghost use Rattle.p9_tree.specs.Trees.{tree_of};
-ghost use Rattle.p9_lower.specs.Operators as specs;
 ghost use Rattle.p9_lower.specs.Operators.{elements_tree, updated_tree, step_bytes, step_amount};
 ghost use Rattle.p9_operators.specs.Converting.{assigned_from};
 
