@@ -24,7 +24,6 @@ use std::alloc::Global;
 
 // A pointer to a structure's unnamed substructure, by that to the structure. Of an offset beyond the limit
 // it is told only that it is there.
-#[tactic(auto, using(crate::proofs::Conversions::kept))]
 fn inner_pointer(alloc: Global, offset: Option<u32>, tree: TTree) -> Result<TTree, NoMemory>
     ensures { (n : ℕ) → offset ≡ kept_offset n
         → IfOk result (λ t. tree_of t ≡ specs.moved_tree (tree_of tree) (trees.Const n)) }

@@ -10,7 +10,6 @@ use p9_tree::{BinOp, TTree};
 use std::alloc::Global;
 
 /// An address that is moved by so many bytes. That of a symbol, moved by a constant, is known.
-#[tactic(auto, using(crate::proofs::Pieces::moved_known, crate::proofs::Pieces::moved_unknown, crate::proofs::Pieces::moved_by_unknown))]
 pub fn moved_tree(alloc: Global, address: TTree, bytes: TTree) -> Result<TTree, NoMemory>
     ensures { IfOk result (λ t. tree_of t ≡ moved_tree (tree_of address) (tree_of bytes)) }
 {
@@ -24,7 +23,6 @@ pub fn moved_tree(alloc: Global, address: TTree, bytes: TTree) -> Result<TTree, 
 }
 
 /// The bytes of so many elements of a size.
-#[tactic(auto, using(crate::proofs::Pieces::scaled_known, crate::proofs::Pieces::scaled_unknown))]
 pub fn scaled_tree(alloc: Global, size: u32, count: TTree) -> Result<TTree, NoMemory>
     ensures { IfOk result (λ t. tree_of t ≡ scaled_tree size (tree_of count)) }
 {
