@@ -154,14 +154,8 @@ pub fn pointer_integer_tree(
         (size_of (tags_of tags.now.list) (type_of target.now)) (tree_of pointer) (tree_of count)) }
 {
     match op {
-        CBinary::Add => {
-            let moved = forwards_tree(alloc, target, tags, pointer, count)?;
-            Ok(moved)
-        }
-        CBinary::Sub => {
-            let moved = backwards_tree(alloc, target, tags, pointer, count)?;
-            Ok(moved)
-        }
+        CBinary::Add => forwards_tree(alloc, target, tags, pointer, count),
+        CBinary::Sub => backwards_tree(alloc, target, tags, pointer, count),
         CBinary::Mul
         | CBinary::Div
         | CBinary::Rem
