@@ -4,6 +4,7 @@
 
 mod counting;
 mod declared;
+mod finish;
 mod known;
 mod level;
 mod names;
@@ -18,8 +19,10 @@ mod tag_table;
 mod tagging;
 
 pub use declared::Declared;
+pub use finish::Finished;
 pub use known::Known;
 pub use level::NameLevel;
 pub use names::Names;
 pub use tag::{Keyword, TagName};
+pub use tag_level::TagLevel;
 pub use tagging::Tagging;

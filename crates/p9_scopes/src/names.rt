@@ -81,4 +81,11 @@ impl Names {
     {
         self.list.as_slice()
     }
+
+    pub fn into_items(self) -> Items<Ident>
+        ensures { result ≡ self }
+    {
+        let Names { list, set: _ } = self;
+        list
+    }
 }

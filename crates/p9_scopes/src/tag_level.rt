@@ -79,7 +79,7 @@ impl TagLevel {
     }
 
     /// The tags, the oldest first.
-    pub(crate) fn as_slice(&self) -> &[TagName]
+    pub fn as_slice(&self) -> &[TagName]
         ensures { self.now ≡ reverse result.now }
     {
         self.list.as_slice()

@@ -1,0 +1,5 @@
+pub mod Nodes
+pub mod Carrying
+pub mod Joining
+pub mod Bodies
+pub mod Lengths

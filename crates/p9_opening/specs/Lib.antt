@@ -1,0 +1,3 @@
+pub mod Lending
+pub mod Filling
+pub mod Frames
