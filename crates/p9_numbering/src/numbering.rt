@@ -5,7 +5,7 @@ ghost use Rattle.p9_lower.specs.Names.{outer_symbol, static_symbol};
 ghost use Rattle.p9_outline.specs.Told.{symbols_told};
 
 use indexmap::IndexMap;
-use p9_base::{Name, NoMemory};
+use p9_base::NoMemory;
 use p9_lang::Ident;
 use p9_nodes::Source;
 use p9_outline::{OutlineSymbol, Outlined, Title};
@@ -17,7 +17,7 @@ use std::marker::Model;
 pub struct Numbering<'a> {
     source: &'a Source<'a>,
     outlined: &'a Outlined<'a>,
-    outers: IndexMap<Name, u32>,
+    outers: IndexMap<&'a [u8], u32>,
     statics: IndexMap<u32, u32>,
 }
 
@@ -36,23 +36,14 @@ impl<'a> Model for Numbering<'a> {
         × NumbersStatics (symbols_told n.source.now.typed.now n.outlined.now.symbols.items) n.statics.entries };
 }
 
-fn key(alloc: Global, name: &Ident) -> Result<Name, NoMemory>
-    ensures { IfOk result (λ key. key ≡ name.now) }
-{
-    Ok(Name {
-        list: Vec::from_slice(alloc, name.list.as_slice())?,
-    })
-}
-
 // Numbers a name, where it has no number.
-fn put_outer(
-    alloc: Global,
-    outers: &mut IndexMap<Name, u32>,
-    name: &Ident,
+fn put_outer<'a>(
+    outers: &mut IndexMap<&'a [u8], u32>,
+    name: &'a Ident,
     number: u32,
 ) -> Result<(), NoMemory> {
-    let key = key(alloc, name)?;
-    if outers.contains_key(&key) {
+    let key = name.list.as_slice();
+    if outers.contains_key(key) {
         return Ok(());
     }
     outers.insert(key, number)?;
@@ -73,14 +64,13 @@ fn put_static(
 }
 
 fn put<'a>(
-    alloc: Global,
-    outers: &mut IndexMap<Name, u32>,
+    outers: &mut IndexMap<&'a [u8], u32>,
     statics: &mut IndexMap<u32, u32>,
-    symbol: &OutlineSymbol<'a>,
+    symbol: &'a OutlineSymbol<'a>,
     number: u32,
 ) -> Result<(), NoMemory> {
     match &symbol.title {
-        Title::Outer(name) => put_outer(alloc, outers, name, number),
+        Title::Outer(name) => put_outer(outers, name, number),
         Title::Static(at) => put_static(statics, *at, number),
     }
 }
@@ -100,7 +90,7 @@ impl<'a> Numbering<'a> {
         let mut number: u32 = 0;
         let mut rest = outlined.symbols.as_slice();
         'symbols: while let [symbol, after @ ..] = rest {
-            put(alloc, &mut outers, &mut statics, symbol, number)?;
+            put(&mut outers, &mut statics, symbol, number)?;
             number = number.checked_add(1).ok_or(NoMemory)?;
             rest = after;
         }
@@ -113,13 +103,12 @@ impl<'a> Numbering<'a> {
     }
 
     /// The number of the symbol of file scope with this name.
-    pub fn outer(&self, alloc: Global, name: &Ident) -> Result<Option<u32>, NoMemory>
-        ensures { IfOk result (λ o. o ≡ outer_symbol self.now name.now) }
+    pub fn outer(&self, name: &Ident) -> Option<u32>
+        ensures { result ≡ outer_symbol self.now name.now }
     {
-        let key = key(alloc, name)?;
-        match self.outers.get(&key) {
-            Some(number) => Ok(Some(*number)),
-            None => Ok(None),
+        match self.outers.get(name.list.as_slice()) {
+            Some(number) => Some(*number),
+            None => None,
         }
     }
 
