@@ -1,0 +1,8 @@
+//! The symbols of a module, and their numbers by their names and by the numbers of statics.
+#![tactic(auto)]
+
+mod numbering;
+mod symbol;
+
+pub use numbering::Numbering;
+pub use symbol::{Form, OutlineSymbol, Title};
