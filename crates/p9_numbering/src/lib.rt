@@ -2,7 +2,8 @@
 #![tactic(auto)]
 
 mod numbering;
+mod numbers;
 mod symbol;
 
-pub use numbering::Numbering;
+pub use numbers::Numbering;
 pub use symbol::{Form, OutlineSymbol, Title};

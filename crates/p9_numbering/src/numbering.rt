@@ -4,19 +4,12 @@ ghost use Rattle.p9_lower.specs.Names.{outer_symbol, static_symbol};
 ghost use Rattle.p9_numbering.specs.Told.{symbols_told};
 ghost use Rattle.p9_numbering.specs.Numbered.{numbered};
 
+use crate::numbers::Numbering;
 use crate::symbol::OutlineSymbol;
 use p9_base::NoMemory;
 use p9_lang::Ident;
 use p9_nodes::Source;
 use std::alloc::Global;
-
-/// The numbers of a module's symbols, from 0 on in their order.
-#[derive(Drop)]
-pub struct Numbering<'a> {
-    pub source: &'a Source<'a>,
-    pub symbols: &'a [OutlineSymbol<'a>],
-    ghost stub: { ⊥ },
-}
 
 impl<'a> Numbering<'a> {
     /// Numbers the symbols.

@@ -17,15 +17,9 @@ pub enum Form<'a> {
     /// A function by its item.
     Code(TypedNode<'a>),
     /// An object of this type by its initialiser.
-    Initial {
-        ty: &'a CType,
-        value: TypedNode<'a>,
-    },
+    Initial { ty: &'a CType, value: TypedNode<'a> },
     /// An object of this type by texts that stand side by side.
-    Text {
-        ty: &'a CType,
-        texts: &'a [Ident],
-    },
+    Text { ty: &'a CType, texts: &'a [Ident] },
     /// An object that begins as zeros.
     Common,
 }
