@@ -19,3 +19,5 @@ mod tree_build;
 mod tree_reader;
 #[cfg(test)]
 mod trees;
+#[cfg(test)]
+mod typed;
