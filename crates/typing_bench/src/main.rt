@@ -8,7 +8,7 @@ use p9_parse::parse;
 use std::alloc::{AllocError, Global};
 use std::io;
 
-const COPIES: usize = 1_000;
+const COPIES: usize = 1_900;
 
 const HEAD: &[u8] = b"struct node { struct node *next; int value[64]; };
 extern void print(char *text, int number);
