@@ -1,5 +1,4 @@
 use Rattle.std.proofs.Common.{◌++◌, ap, ◌∙◌}
-use Rattle.std.specs.Option.{option_map, option_copied}
 use Rattle.p9_lang.specs.Types.{type_of}
 use Rattle.p9_lang.specs.Parts.{Members, last_object, or_unnamed}
 use Rattle.p9_lang.specs.Typing.{typeless, spec_rules, unnamed_rules}
