@@ -1,4 +1,5 @@
 use Rattle.std.proofs.Common.{◌≡◌, ◌+◌, ◌-◌, ◌∷◌, [], length, take, drop, ap, sym, ◌∙◌}
+use Rattle.std.proofs.lemmas.List.{map-append}
 use Rattle.p9_lang.specs.Trees.{syntax_of, row_of, nodes_of, nodes_of_row}
 use Rattle.p9_lang.specs.Typing.{judge_parts}
 use Rattle.p9_types.proofs.Lists.{first_and_others}
@@ -56,7 +57,7 @@ judge_parts-parts-preserved t c =
           (part_of c.in-Ok.judged)
           (judge_parts c.args.kind.now (frame_of c.args.names.now c.args.frame.now) [] (row_of c.args.parts.now) (known_of c.args.known.now))
           (first_and_others c.parts.rest.now c.part-item.result c.in-len1-up.len_at_least c.part-item.is)
-          ?
+          (ap parts_of c.in_ok-push-in-Ok.ensures ∙ map-append part_of c.parts.before (c.in-Ok.judged ∷ []))
           c.in-Ok.ensures.judges c.parts.invariant.judges;
       counts = parts_counted c.parts.rest.now (take (length c.parts.rest.now - 1) (drop 1 c.parts.rest.now)) c.part-item.result c.parts.nodes
           c.judge_part.new.nodes (c.args.nodes.now + nodes_of_row (row_of c.args.parts.now))
