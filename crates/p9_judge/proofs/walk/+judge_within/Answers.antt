@@ -1,4 +1,4 @@
-use Rattle.std.proofs.Common.{◌≡◌, ◌+◌, ◌-◌, ◌∷◌, [], length, take, drop, ap, sym, ◌∙◌}
+use Rattle.std.proofs.Common.{◌+◌, ◌-◌, ◌∷◌, [], length, take, drop, ap, sym, ◌∙◌}
 use Rattle.std.proofs.lemmas.List.{map-append}
 use Rattle.p9_lang.specs.Trees.{syntax_of, row_of, nodes_of, nodes_of_row}
 use Rattle.p9_lang.specs.Typing.{judge_parts}
