@@ -1,0 +1,6 @@
+mod Trees
+mod Slots
+mod Made
+mod Statements
+mod Orderly
+mod Functions
