@@ -1,6 +1,3 @@
 mod Trees
 mod Slots
 mod Made
-mod Statements
-mod Orderly
-mod Functions

@@ -59,3 +59,13 @@ next_part test c (Part slot role ∷ symbols) scope at first others p h = record
   behind_at = _;
   fills = h.1;
 }
+
+-- a test that all pass
+abbrev pub any : Slot → Bool
+any slot = true
+
+pub all_pass : (symbols : List Symbol) → pass any symbols ≡ true
+all_pass [] = refl
+all_pass (Write t ∷ symbols) = all_pass symbols
+all_pass (Enter ∷ symbols) = all_pass symbols
+all_pass (Part slot role ∷ symbols) = all_pass symbols
