@@ -1,3 +1,5 @@
 mod Trees
 mod Slots
+mod Places
 mod Made
+mod Functions

@@ -35,12 +35,12 @@ pub record Next (test : Slot → Bool) (c : Class) (first : Tree) (others : Tree
   pub behind_at : ℕ
   pub fills : Fills c left behind_scope behind_at others
 
-both : (a b : Bool) → a && b ≡ true → (a ≡ true) × (b ≡ true)
+pub true_false : true ≡ false → ⊥
+true_false h = cc
+
+pub both : (a b : Bool) → a && b ≡ true → (a ≡ true) × (b ≡ true)
 both true b h = (refl, h)
-both false b h = absurd (false_true h)
-  where
-    false_true : false ≡ true → ⊥
-    false_true e = cc
+both false b h = cc
 
 pub next_part : (test : Slot → Bool) (c : Class) (symbols : List Symbol) (scope : Scope) (at : ℕ) (first : Tree) (others : Trees) → pass test symbols ≡ true
     → Fills c symbols scope at (more first others) → Next test c first others
