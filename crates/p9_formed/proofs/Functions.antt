@@ -22,7 +22,7 @@ inner_of_slot c Pointed p = refl
 inner_of_slot c Direct p = refl
 inner_of_slot c Grouped p = refl
 
-no_inner_function : (c : Class) → is_inner_class c ≡ true → Accepts c Function → ⊥
+pub no_inner_function : (c : Class) → is_inner_class c ≡ true → Accepts c Function → ⊥
 no_inner_function class.FileItem p a = cc
 no_inner_function c p a = a
 

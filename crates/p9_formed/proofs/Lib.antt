@@ -3,3 +3,5 @@ mod Slots
 mod Places
 mod Made
 mod Functions
+mod Statements
+mod Orderly

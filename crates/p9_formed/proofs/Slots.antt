@@ -38,6 +38,9 @@ pub record Next (test : Slot → Bool) (c : Class) (first : Tree) (others : Tree
 pub true_false : true ≡ false → ⊥
 true_false h = cc
 
+pub false_true : false ≡ true → ⊥
+false_true h = cc
+
 pub both : (a b : Bool) → a && b ≡ true → (a ≡ true) × (b ≡ true)
 both true b h = (refl, h)
 both false b h = cc
