@@ -1,5 +1,5 @@
 -- Functions are items: none stands within another item.
-use Rattle.std.proofs.Common.{◌≡◌, ℕ, Bool, true, false, List, refl, subst}
+use Rattle.std.proofs.Common.{◌≡◌, ℕ, true, false, List, refl, subst}
 use Rattle.p9_lang.specs.declared.tree.Kind.{Kind}
 use Rattle.p9_lang.specs.declared.tree.Kind.TheVariants as kind
 use Rattle.p9_grammar.specs.declared.head.Class.{Class}
@@ -7,7 +7,7 @@ use Rattle.p9_grammar.specs.declared.head.Class.TheVariants as class
 use Rattle.p9_grammar.specs.Trees.{Tree, node, Trees, none, more, count, trees_of}
 use Rattle.p9_grammar.specs.Symbols.{Symbol, Slot, Of, Last, Pointed, Direct, Grouped, right_side, file_symbols}
 use Rattle.p9_grammar.specs.Scopes.{Scope}
-use Rattle.p9_grammar.specs.Grammar.{Sort, Function, sort, Accepts, Formed, Fills, slot_class}
+use Rattle.p9_grammar.specs.Grammar.{Function, sort, Accepts, Formed, Fills, slot_class}
 use Rattle.p9_grammar.specs.Promise.{file_scope}
 use Rattle.p9_formed.specs.Functions.{is_function, HasNoFunction, HaveNoFunction, HoldsNoFunction, FunctionsAreItems}
 use Rattle.p9_formed.specs.Laws.{WellFormedFilesHoldFunctions}

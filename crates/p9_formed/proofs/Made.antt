@@ -1,6 +1,6 @@
 -- Nodes of well-formed files are made: numbers, characters and names have no parts, and an `op=` has one of its
 -- operators.
-use Rattle.std.proofs.Common.{◌≡◌, ℕ, Bool, true, false, ◌&&◌, List, [], ◌∷◌, Some, refl, subst}
+use Rattle.std.proofs.Common.{◌≡◌, ℕ, true, List, Some, refl, subst}
 use Rattle.p9_lang.specs.declared.tree.CBinary.{CBinary}
 use Rattle.p9_lang.specs.declared.tree.CBinary.TheVariants as operator
 use Rattle.p9_lang.specs.declared.tree.Kind.{Kind}
@@ -8,7 +8,7 @@ use Rattle.p9_lang.specs.declared.tree.Kind.TheVariants as kind
 use Rattle.p9_grammar.specs.declared.head.Class.{Class}
 use Rattle.p9_grammar.specs.declared.head.Class.TheVariants as class
 use Rattle.p9_grammar.specs.Trees.{Tree, node, Trees, none, more, count, trees_of}
-use Rattle.p9_grammar.specs.Symbols.{Symbol, Write, Part, Enter, right_side, file_symbols}
+use Rattle.p9_grammar.specs.Symbols.{Symbol, right_side, file_symbols}
 use Rattle.p9_grammar.specs.Scopes.{Scope}
 use Rattle.p9_grammar.specs.Grammar.{Asks, Formed, Fills, slot_class, is_assignable}
 use Rattle.p9_grammar.specs.Promise.{file_scope}

@@ -1,6 +1,5 @@
 -- The block of a function stands last, directly behind its declarator.
 use Rattle.std.proofs.Common.{◌≡◌, ℕ, suc, Bool, true, false, List, [], ◌∷◌, ◌++◌, refl, subst, sym}
-use Rattle.p9_lang.specs.declared.tree.SpecWord.{SpecWord}
 use Rattle.p9_lang.specs.declared.tree.Kind.{Kind}
 use Rattle.p9_lang.specs.declared.tree.Kind.TheVariants as kind
 use Rattle.p9_lang.specs.Trees.{Syntax, SyntaxRow}
@@ -11,9 +10,9 @@ use Rattle.p9_grammar.specs.declared.head.Naming.TheVariants as naming
 use Rattle.p9_grammar.specs.declared.head.Class.{Class}
 use Rattle.p9_grammar.specs.declared.head.Class.TheVariants as class
 use Rattle.p9_grammar.specs.Trees.{Tree, node, Trees, none, more, count, trees_of}
-use Rattle.p9_grammar.specs.Symbols.{Symbol, Write, Part, Enter, Slot, Of, Last, Pointed, Direct, Grouped, Role, Begins, part, declarator_of, spec_symbols, is_typedef, right_side, file_symbols}
+use Rattle.p9_grammar.specs.Symbols.{Symbol, Write, Part, Enter, Slot, Of, Last, Pointed, Direct, Grouped, Role, Begins, part, declarator_of, spec_symbols, is_typedef, file_symbols}
 use Rattle.p9_grammar.specs.Scopes.{Scope, add, after, told}
-use Rattle.p9_grammar.specs.Grammar.{Sort, Declarator, sort, Accepts, Formed, Fills, slot_class, past}
+use Rattle.p9_grammar.specs.Grammar.{Declarator, sort, Accepts, Formed, Fills, slot_class, past}
 use Rattle.p9_grammar.specs.Promise.{file_scope}
 use Rattle.p9_sound.specs.Functions.{Either, IsBody, HasBody, IsOrderly, AreOrderly}
 use Rattle.p9_formed.specs.Laws.{WellFormedFilesAreOrderly}

@@ -7,11 +7,10 @@ use Rattle.p9_lang.specs.declared.tree.SpecWord.TheVariants as word
 use Rattle.p9_lang.specs.declared.tree.Kind.{Kind}
 use Rattle.p9_lang.specs.declared.tree.Kind.TheVariants as kind
 use Rattle.p9_grammar.specs.declared.terminal.Punctuator.TheVariants as mark
-use Rattle.p9_grammar.specs.declared.head.Naming.{Naming}
 use Rattle.p9_grammar.specs.declared.head.Naming.TheVariants as naming
 use Rattle.p9_grammar.specs.declared.head.Class.{Class}
 use Rattle.p9_grammar.specs.declared.head.Class.TheVariants as class
-use Rattle.p9_grammar.specs.Symbols.{Symbol, Write, Part, Enter, Slot, Of, Last, Pointed, Direct, Grouped, Role, Plain, Declares, Begins, part, sign, many, later, listed, optional, at_most_one, named, in_braces, word_symbols, spec_symbols, spec_parts, is_typedef, declarator, declarator_of, initialiser, later_declarators, declarators, qualifier, inner_declarator, parameters, parameter_list, behind, entry_place, branches, texts, right_side, expression, assignment, conditional}
+use Rattle.p9_grammar.specs.Symbols.{Symbol, Write, Part, Enter, Slot, Of, Last, Pointed, Direct, Grouped, Plain, Declares, part, sign, many, later, listed, optional, at_most_one, named, in_braces, word_symbols, spec_symbols, spec_parts, is_typedef, declarator, declarator_of, initialiser, later_declarators, declarators, qualifier, inner_declarator, parameters, parameter_list, behind, entry_place, branches, texts, right_side, expression, assignment, conditional}
 use Rattle.p9_formed.proofs.Slots.{pass, both, true_false}
 
 -- Lists of symbols

@@ -1,19 +1,10 @@
 -- What may stand in the places of parts.
-use Rattle.std.proofs.Common.{◌≡◌, ℕ, zero, suc, ◌-◌, Bool, true, false, ◌&&◌, List, [], ◌∷◌, ◌++◌, map, Option, Some, None, refl}
-use Rattle.p9_lang.specs.declared.tree.EntryBy.{EntryBy}
-use Rattle.p9_lang.specs.declared.tree.EntryBy.TheVariants as by
-use Rattle.p9_lang.specs.declared.tree.SpecWord.{SpecWord}
-use Rattle.p9_lang.specs.declared.tree.SpecWord.TheVariants as word
-use Rattle.p9_lang.specs.declared.tree.Kind.{Kind}
-use Rattle.p9_lang.specs.declared.tree.Kind.TheVariants as kind
-use Rattle.p9_grammar.specs.declared.head.Naming.TheVariants as naming
+use Rattle.std.proofs.Common.{◌≡◌, ℕ, suc, Bool, true, false, ◌&&◌, List, [], ◌∷◌, refl}
 use Rattle.p9_grammar.specs.declared.head.Class.{Class}
-use Rattle.p9_grammar.specs.declared.head.Class.TheVariants as class
-use Rattle.p9_grammar.specs.Trees.{Tree, Trees, none, more}
-use Rattle.p9_grammar.specs.Symbols.{Symbol, Write, Part, Enter, Slot, Of, Last, Pointed, Direct, Grouped, Role, Plain, Declares, part, many, later, listed, optional, at_most_one, named, in_braces, word_symbols, spec_symbols, spec_parts, is_typedef, declarator, declarator_of, initialiser, later_declarators, declarators, qualifier, inner_declarator, parameters, parameter_list, behind, entry_place, branches, texts, right_side, expression, assignment, conditional}
+use Rattle.p9_grammar.specs.Trees.{Tree, Trees, more}
+use Rattle.p9_grammar.specs.Symbols.{Symbol, Write, Part, Enter, Slot}
 use Rattle.p9_grammar.specs.Scopes.{Scope}
-use Rattle.p9_grammar.specs.Grammar.{Sort, Expression, Declarator, Braced, Entry, Param, TypeName, Member, Constant, Declaration, Function, Block, Statement, Label, sort, Accepts, Formed, Fills, slot_class}
-use Rattle.p9_sound.specs.Automatics.{declares}
+use Rattle.p9_grammar.specs.Grammar.{Formed, Fills, slot_class}
 
 -- each place of a part passes a test
 abbrev pub pass : (Slot → Bool) → List Symbol → Bool

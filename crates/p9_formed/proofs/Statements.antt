@@ -9,7 +9,7 @@ use Rattle.p9_grammar.specs.declared.head.Class.TheVariants as class
 use Rattle.p9_grammar.specs.Trees.{Tree, node, Trees, none, more, count}
 use Rattle.p9_grammar.specs.Symbols.{Symbol, Slot, Of, Last, Pointed, Direct, Grouped, right_side}
 use Rattle.p9_grammar.specs.Scopes.{Scope}
-use Rattle.p9_grammar.specs.Grammar.{Sort, Expression, Declarator, Braced, Entry, Param, TypeName, Member, Constant, Declaration, Function, Block, Statement, Label, sort, Accepts, Formed, Fills, slot_class}
+use Rattle.p9_grammar.specs.Grammar.{Sort, Declaration, Function, Block, Statement, Label, sort, Accepts, Formed, Fills, slot_class}
 use Rattle.p9_sound.specs.Automatics.{declares, HasNone, HaveNone, IsStatement, AreStatements}
 use Rattle.p9_formed.proofs.Trees.{syntax, syntaxes}
 use Rattle.p9_formed.proofs.Slots.{pass, false_true, Next, next_part}

@@ -1,5 +1,5 @@
 -- The trees of the grammar as those of typing.
-use Rattle.std.proofs.Common.{◌≡◌, ℕ, List, [], ◌∷◌, map, refl, ap, sym, ◌∙◌}
+use Rattle.std.proofs.Common.{◌≡◌, List, [], ◌∷◌, map, refl, ap, sym, ◌∙◌}
 use Rattle.p9_lang.specs.declared.tree.Node.{Node, roll-Node, fold-roll-Node, ind-Node}
 use Rattle.p9_lang.specs.declared.tree.Node.TheOpen.{Node-F}
 use Rattle.p9_lang.specs.Trees.{Syntax, SyntaxRow, row, syntax_step, syntax_of, row_of}
