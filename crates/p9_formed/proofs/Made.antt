@@ -29,6 +29,7 @@ assigning operator.AndAnd h = h
 assigning operator.OrOr h = h
 assigning op h = refl
 
+-- by what a kind asks and by its places
 node_made : (k : Kind) (parts : Trees) (c : Class) (scope : Scope) (at : ℕ) → Asks scope k (count parts) → Fills c (right_side k (count parts)) scope at parts
     → NodeIsMade k (syntaxes parts)
 node_made (kind.Name x) none c scope at a f = refl

@@ -36,6 +36,7 @@ heads_no_declarator class.Member l p a = a
 heads_no_declarator class.Constant l p a = a
 heads_no_declarator c l p a = false_true p
 
+-- what stands in the braces of a head is no declarator
 head_kind : (c : Class) (k : Kind) → is_head_class c ≡ true → Accepts c (sort k) → is_declarator k ≡ false
 head_kind c (kind.DeclName x) p a = absurd (heads_no_declarator c 16 p a)
 head_kind c (kind.Star volatiles) p a = absurd (heads_no_declarator c 15 p a)
@@ -78,6 +79,7 @@ body_later : (t : Syntax) (others : SyntaxRow) → is_declarator (kind_at t) ≡
 body_later t typing.none d b = b
 body_later t (typing.more next others) d b = subst (λ is. Either is (IsBody next others) (HasBody (typing.more next others))) (sym d) b
 
+-- the parts of a function: those of its head, its declarator and its block
 function_has_body : (symbols : List Symbol) (role : Role) (c : Class) (scope : Scope) (at : ℕ) (parts : Trees) → pass is_head symbols ≡ true
     → Fills c (symbols ++ (declarator_of naming.Named role ∷ part class.Body ∷ [])) scope at parts → HasBody (syntaxes parts)
 function_has_body [] role c scope at none p h = absurd h

@@ -36,6 +36,7 @@ pub both : (a b : Bool) → a && b ≡ true → (a ≡ true) × (b ≡ true)
 both true b h = (refl, h)
 both false b h = cc
 
+-- the first part, and what is left
 pub next_part : (test : Slot → Bool) (c : Class) (symbols : List Symbol) (scope : Scope) (at : ℕ) (first : Tree) (others : Trees) → pass test symbols ≡ true
     → Fills c symbols scope at (more first others) → Next test c first others
 next_part test c [] scope at first others p h = absurd h

@@ -34,6 +34,7 @@ calm_of_slot c Pointed p = refl
 calm_of_slot c Direct p = refl
 calm_of_slot c Grouped p = refl
 
+-- a calm class accepts calm nodes alone
 calm_accepts : (c : Class) (s : Sort) → is_calm_class c ≡ true → Accepts c s → is_calm_sort s ≡ true
 calm_accepts class.FileItem s p a = absurd (false_true p)
 calm_accepts class.HeadItem s p a = absurd (false_true p)
@@ -48,6 +49,7 @@ calm_accepts c Statement p a = absurd a
 calm_accepts c Label p a = absurd a
 calm_accepts c s p a = refl
 
+-- they declare nothing, and hold no statements
 calm_kind : (k : Kind) → is_calm_sort (sort k) ≡ true → (holds_statements k ≡ false) × (declares k ≡ false)
 calm_kind (kind.Declaration spec inits) p = absurd (false_true p)
 calm_kind (kind.Function spec) p = absurd (false_true p)
