@@ -34,6 +34,7 @@ use Rattle.p9_firsts.proofs.Closed.{first_empty}
 use Rattle.p9_known.specs.Functions.{is_function_node, HasNoFunction, HaveNoFunctions, IsFunctionless, FunctionsAreItems}
 use Rattle.p9_known.specs.Laws.{ItemsNameIntegers}
 use Rattle.p9_known.proofs.Named.{value_of, tree_name}
+use Rattle.p9_known.proofs.Scoped.{Any, LevelIs, LevelsAre, Never, ObjectIs, PartIs, PartsAre, StepsAre, around_are, closes_level, in_levels_are, innermost_are, judged_leaves, last_is, left_are, list_is, opened_are, opened_names, opens_level, own_is, part_asked, parts_append, parts_asked, same_level}
 
 -- NAMES IN SCOPE
 
@@ -45,14 +46,6 @@ IsInt type (Static number) = Unit {0}
 IsInt type (Auto number) = Unit {0}
 IsInt type (TypeName other) = Unit {0}
 
-abbrev LevelIsInt : List Declared → Type 0
-LevelIsInt [] = Unit {0}
-LevelIsInt (d ∷ ds) = IsInt d.type d.means × LevelIsInt ds
-
-abbrev LevelsAreInt : List (List Declared) → Type 0
-LevelsAreInt [] = Unit {0}
-LevelsAreInt (level ∷ levels) = LevelIsInt level × LevelsAreInt levels
-
 plain_int : (type : TypeTree) (means : Meant) → value_of means ≡ [] → IsInt type means
 plain_int type (EnumValue word) h = cc
 plain_int type Nothing h = tt
@@ -60,32 +53,6 @@ plain_int type (Outer name) h = tt
 plain_int type (Static number) h = tt
 plain_int type (Auto number) h = tt
 plain_int type (TypeName other) h = tt
-
-innermost_int : (levels : List (List Declared)) → LevelsAreInt levels → LevelIsInt (innermost levels)
-innermost_int [] h = tt
-innermost_int (level ∷ levels) h = h.0
-
-around_int : (levels : List (List Declared)) → LevelsAreInt levels → LevelsAreInt (around levels)
-around_int [] h = tt
-around_int (level ∷ levels) h = h.1
-
-in_level_int : (x : List ℕ) (ds : List Declared) (d : Declared) → LevelIsInt ds → in_level x ds ≡ Some d → IsInt d.type d.means
-in_level_int x [] d h e = cc
-in_level_int x (y ∷ ys) d h e = by (same_name x y.name) e (λ k. in_level_int x ys d h.1 k)
-  where
-    by : (b : Bool) → (if b then Some y else in_level x ys) ≡ Some d → (in_level x ys ≡ Some d → IsInt d.type d.means) → IsInt d.type d.means
-    by true k next = let z : y ≡ d = cc in subst (λ w. IsInt w.type w.means) z h.0
-    by false k next = next k
-
-or_int : (a b : Option Declared) (d : Declared) → (a ≡ Some d → IsInt d.type d.means) → (b ≡ Some d → IsInt d.type d.means) → or_else a b ≡ Some d
-    → IsInt d.type d.means
-or_int None b d h g e = g e
-or_int (Some x) b d h g e = h e
-
-in_levels_int : (x : List ℕ) (levels : List (List Declared)) (d : Declared) → LevelsAreInt levels → in_levels x levels ≡ Some d → IsInt d.type d.means
-in_levels_int x [] d h e = cc
-in_levels_int x (level ∷ levels) d h e =
-    or_int (in_level x level) (in_levels x levels) d (λ k. in_level_int x level d h.0 k) (λ k. in_levels_int x levels d h.1 k) e
 
 -- A LEVEL where the newest of a name is no enumeration constant
 
@@ -125,12 +92,12 @@ held_retyped y x type (d ∷ ds) h =
         let g = next (record { found = h.found; there = k; plain = h.plain }) in
         record { found = g.found; there = ap (λ c. if c then Some d else in_level y (retyped x type ds)) e ∙ g.there; plain = g.plain }
 
-level_retyped : (x : List ℕ) (type : TypeTree) (ds : List Declared) → LevelIsInt ds → Held x ds → LevelIsInt (retyped x type ds)
+level_retyped : (x : List ℕ) (type : TypeTree) (ds : List Declared) → LevelIs IsInt ds → Held x ds → LevelIs IsInt (retyped x type ds)
 level_retyped x type [] h p = tt
 level_retyped x type (d ∷ ds) h p = by (same_name x d.name) p.there (λ g. level_retyped x type ds h.1 g)
   where
-    by : (b : Bool) → (if b then Some d else in_level x ds) ≡ Some p.found → (Held x ds → LevelIsInt (retyped x type ds))
-        → LevelIsInt (if b then record d { type = type } ∷ ds else d ∷ retyped x type ds)
+    by : (b : Bool) → (if b then Some d else in_level x ds) ≡ Some p.found → (Held x ds → LevelIs IsInt (retyped x type ds))
+        → LevelIs IsInt (if b then record d { type = type } ∷ ds else d ∷ retyped x type ds)
     by true k next = let z : d ≡ p.found = cc in (plain_int type d.means (ap (λ w. value_of w.means) z ∙ p.plain), h.1)
     by false k next = (h.0, next (record { found = p.found; there = k; plain = p.plain }))
 
@@ -146,112 +113,26 @@ then_keeps : (s r q : Known) → KeepsLevel s r → KeepsLevel r q → KeepsLeve
 then_keeps s r q a b = record { outside = b.outside ∙ a.outside; held = λ x h. b.held x (a.held x h) }
 
 record Settles (k : Kind) (s q : Known) : Type 0 where
-  int : LevelsAreInt q.names
+  int : LevelsAre IsInt q.names
   keeps : is_function_node k ≡ false → KeepsLevel s q
 
-same_settles : (k : Kind) (s q : Known) → LevelsAreInt s.names → q.names ≡ s.names → Settles k s q
-same_settles k s q v e = record { int = subst (λ levels. LevelsAreInt levels) (sym e) v; keeps = λ f. same_keeps s q e }
+same_settles : (k : Kind) (s q : Known) → LevelsAre IsInt s.names → q.names ≡ s.names → Settles k s q
+same_settles k s q v e = record { int = subst (λ levels. LevelsAre IsInt levels) (sym e) v; keeps = λ f. same_keeps s q e }
 
 then_settles : (k : Kind) (s r q : Known) → Settles k s r → Settles k r q → Settles k s q
 then_settles k s r q a b = record { int = b.int; keeps = λ f. then_keeps s r q (a.keeps f) (b.keeps f) }
 
-newest_settles : (k : Kind) (s q : Known) (d : Declared) → LevelsAreInt s.names → q.names ≡ (d ∷ innermost s.names) ∷ around s.names → IsInt d.type d.means
+newest_settles : (k : Kind) (s q : Known) (d : Declared) → LevelsAre IsInt s.names → q.names ≡ (d ∷ innermost s.names) ∷ around s.names → IsInt d.type d.means
     → ((x : List ℕ) → Held x (innermost s.names) → same_name x d.name ≡ true → value_of d.means ≡ []) → Settles k s q
 newest_settles k s q d v e i p = record {
-  int = subst (λ levels. LevelsAreInt levels) (sym e) ((i, innermost_int s.names v), around_int s.names v);
+  int = subst (λ levels. LevelsAre IsInt levels) (sym e) ((i, innermost_are IsInt s.names v), around_are IsInt s.names v);
   keeps = λ f. record {
     outside = ap around e;
     held = λ x h. subst (λ levels. Held x (innermost levels)) (sym e) (held_newest x d (innermost s.names) h (p x h));
   };
 }
 
--- OPENING
-
-abbrev opens_level : Kind → Bool
-opens_level kind.Block = true
-opens_level (kind.Params inner void_word) = true
-opens_level k = false
-
-abbrev closes_level : Kind → Bool
-closes_level kind.Block = true
-closes_level (kind.Params inner void_word) = true
-closes_level (kind.Function spec) = true
-closes_level k = false
-
-same_level : (k : Kind) → is_function_node k ≡ false → closes_level k ≡ opens_level k
-same_level (kind.Function spec) f = cc
-same_level k f = refl
-
-either_same : (s : Known) (c : Bool) (x y : Tagging) → x.known.names ≡ s.names → y.known.names ≡ s.names → (if c then x else y).known.names ≡ s.names
-either_same s true x y h k = h
-either_same s false x y h k = k
-
-known_tag_same : (t : TagName) (has_body : Bool) (s : Known) → (known_tag t has_body s).known.names ≡ s.names
-known_tag_same t true s = refl
-known_tag_same t false s = refl
-
-tag_from_same : (o : Option TagName) (keyword : Keyword) (name : List ℕ) (has_body : Bool) (s : Known) → (tag_from o keyword name has_body s).known.names ≡ s.names
-tag_from_same None keyword name has_body s = refl
-tag_from_same (Some t) keyword name has_body s =
-    either_same s _ (known_tag t has_body s) (new_tag (Redeclared name ∷ []) keyword name has_body s) (known_tag_same t has_body s) refl
-
-tagged_same : (keyword : Keyword) (name : List ℕ) (has_body : Bool) (s : Known) → (tagged_as keyword name has_body s).known.names ≡ s.names
-tagged_same keyword name has_body s =
-    either_same s (is_nameless name) (new_tag [] keyword name has_body s) (tag_from _ keyword name has_body s) refl (tag_from_same _ keyword name has_body s)
-
-head_names : (storage : Storage) (c : Context) (h : Head) (s : Known) → (of_head storage c h s).1.names ≡ s.names
-head_names storage c (Words type) s = refl
-head_names storage c (Named x) s = refl
-head_names storage c (Structure is_union name members) s = tagged_same _ name _ s
-head_names storage c (Enumeration name count) s = tagged_same Enum name _ s
-
-opened_names : (k : Kind) (c : Context) (s : Known) → (opened k c s).1.names ≡ (if opens_level k then [] ∷ s.names else s.names)
-opened_names (kind.Declaration spec inits) c s = head_names _ c _ s
-opened_names (kind.Function spec) c s = head_names (storage_of spec.words) c (head_of spec.words) (record s { autos = 0 })
-opened_names (kind.Member spec) c s = head_names _ c _ s
-opened_names (kind.Param spec) c s = head_names _ c _ s
-opened_names (kind.NamedType spec) c s = head_names _ c _ s
-opened_names kind.Block c s = refl
-opened_names (kind.Params inner void_word) c s = refl
-opened_names _ c s = refl
-
 -- PARTS
-
-abbrev ShapeIsInt : Shape → Type 0
-ShapeIsInt (Takes parameters level) = LevelIsInt level
-ShapeIsInt (Names name) = Unit {0}
-ShapeIsInt Keeps = Unit {0}
-ShapeIsInt Points = Unit {0}
-ShapeIsInt (Sized c) = Unit {0}
-ShapeIsInt Unsized = Unit {0}
-
-abbrev StepsAreInt : List Step → Type 0
-StepsAreInt [] = Unit {0}
-StepsAreInt (step ∷ steps) = ShapeIsInt step.shape × StepsAreInt steps
-
-abbrev PartIsInt : (asked : List Step → Type 0) → Part → Type 0
-PartIsInt asked (Declarator steps) = StepsAreInt steps
-PartIsInt asked (Object type steps last role) = asked steps
-PartIsInt asked (Value o) = Unit {0}
-PartIsInt asked (Members members) = Unit {0}
-PartIsInt asked (Enumerator x value) = Unit {0}
-PartIsInt asked (Parameter type) = Unit {0}
-PartIsInt asked (NamedType type) = Unit {0}
-PartIsInt asked (Braced count) = Unit {0}
-PartIsInt asked (Filled next) = Unit {0}
-PartIsInt asked (CaseLabel word) = Unit {0}
-PartIsInt asked DefaultLabel = Unit {0}
-PartIsInt asked Statement = Unit {0}
-
-abbrev PartsAreInt : (asked : List Step → Type 0) → List Part → Type 0
-PartsAreInt asked [] = Unit {0}
-PartsAreInt asked (part ∷ parts) = PartIsInt asked part × PartsAreInt asked parts
-
-abbrev Never : List Step → Type 0
-Never steps = ⊥
-
-abbrev Any : List Step → Type 0
-Any steps = Unit {0}
 
 -- a declaration asks that the name of its object is held
 abbrev Asked : Kind → Known → List Step → Type 0
@@ -266,164 +147,19 @@ asked_kept : (k : Kind) (s q : Known) → (is_function_node k ≡ false → Keep
 asked_kept (kind.Declaration spec inits) s q g steps h = let a = g refl in a.held (name_in (name_of steps)) h
 asked_kept k s q g steps h = tt
 
-part_asked : (a b : List Step → Type 0) → ((steps : List Step) → a steps → b steps) → (part : Part) → PartIsInt a part → PartIsInt b part
-part_asked a b g (Object type steps last role) h = g steps h
-part_asked a b g (Declarator steps) h = h
-part_asked a b g _ h = tt
-
-parts_asked : (a b : List Step → Type 0) → ((steps : List Step) → a steps → b steps) → (parts : List Part) → PartsAreInt a parts → PartsAreInt b parts
-parts_asked a b g [] h = tt
-parts_asked a b g (part ∷ parts) h = (part_asked a b g part h.0, parts_asked a b g parts h.1)
-
-steps_append : (xs ys : List Step) → StepsAreInt xs → StepsAreInt ys → StepsAreInt (xs ++ ys)
-steps_append [] ys h g = g
-steps_append (x ∷ xs) ys h g = (h.0, steps_append xs ys h.1 g)
-
-parts_append : (asked : List Step → Type 0) (before : List Part) (part : Part) → PartsAreInt asked before → PartIsInt asked part → PartsAreInt asked (before ++ part ∷ [])
-parts_append asked [] part h g = (g, tt)
-parts_append asked (p ∷ ps) part h g = (h.0, parts_append asked ps part h.1 g)
-
-inner_int : (asked : List Step → Type 0) (parts : List Part) → PartsAreInt asked parts → StepsAreInt (inner_steps parts)
-inner_int asked [] h = tt
-inner_int asked (Declarator steps ∷ parts) h = h.0
-inner_int asked (_ ∷ parts) h = tt
-
-abbrev ListIsInt : Option (List Declared) → Type 0
-ListIsInt None = Unit {0}
-ListIsInt (Some level) = LevelIsInt level
-
-own_by : (number : ℕ) (shape : Shape) (steps : List Step) → ShapeIsInt shape → ListIsInt (own_list steps)
-    → ListIsInt (own_list (record { number = number; shape = shape } ∷ steps))
-own_by number (Names name) steps h g = g
-own_by number Keeps steps h g = g
-own_by number Points steps h g = tt
-own_by number (Sized c) steps h g = tt
-own_by number Unsized steps h g = tt
-own_by number (Takes parameters level) steps h g = h
-
-own_int : (steps : List Step) → StepsAreInt steps → ListIsInt (own_list steps)
-own_int [] h = tt
-own_int (step ∷ steps) h = own_by step.number step.shape steps h.0 (own_int steps h.1)
-
-list_int : (o : Option (List Declared)) → ListIsInt o → LevelIsInt (names_of_list o)
-list_int None h = tt
-list_int (Some level) h = h
-
-abbrev ObjectIsInt : (asked : List Step → Type 0) → Option Part → Type 0
-ObjectIsInt asked (Some (Object type steps last role)) = asked steps
-ObjectIsInt asked o = Unit {0}
-
-or_int_object : (asked : List Step → Type 0) (o : Option Part) (part : Part) → ObjectIsInt asked o → PartIsInt asked part → ObjectIsInt asked (or_object o part)
-or_int_object asked (Some later) part h g = h
-or_int_object asked None (Object type steps last role) h g = g
-or_int_object asked None _ h g = tt
-
-last_int : (asked : List Step → Type 0) (parts : List Part) → PartsAreInt asked parts → ObjectIsInt asked (last_object parts)
-last_int asked [] h = tt
-last_int asked (part ∷ parts) h = or_int_object asked (last_object parts) part (last_int asked parts h.1) h.0
-
--- NODES, which leave these levels of names
-
-abbrev Leaves : List (List Declared) → Judged → Type 0
-Leaves names m = (r : Part × Known) → m ≡ Ok r → (r.1.names ≡ names) × PartIsInt Never r.0
-
-err_leaves : (names : List (List Declared)) (broken : Broken) → Leaves names (Err broken)
-err_leaves names broken r e = cc
-
-if_leaves : (names : List (List Declared)) (c : Bool) (x y : Judged) → Leaves names x → Leaves names y → Leaves names (if c then x else y)
-if_leaves names true x y h g = h
-if_leaves names false x y h g = g
-
-has_leaves : (rules : List Rule) (type : TypeTree) (means : Meant) (part : Part) (q : Known) → PartIsInt Never part → Leaves q.names (has rules type means part q)
-has_leaves rules type means part q f r e =
-    subst (λ x. (x.1.names ≡ q.names) × PartIsInt Never x.0) (unless_of (broken_rules (next_node q) rules) (part, with_node type means q) r e) (refl, f)
-
-module _ (s : Known) where
-  brackets_leave : (asked : List Step → Type 0) (parts : List Part) → PartsAreInt asked parts → Leaves s.names (judged_brackets parts s)
-  brackets_leave asked [] h = has_leaves [] Void Nothing _ s (tt, tt)
-  brackets_leave asked (Value o ∷ []) h = has_leaves [] Void Nothing _ s (tt, tt)
-  brackets_leave asked (Declarator steps ∷ []) h = has_leaves [] Void Nothing _ s (steps_append steps _ h.0 (tt, tt))
-  brackets_leave asked (Declarator steps ∷ (Value o ∷ [])) h = has_leaves [] Void Nothing _ s (steps_append steps _ h.0 (tt, tt))
-  brackets_leave asked _ h = err_leaves s.names (at_node (next_node s) Malformed)
-
-  name_leaves : (x : List ℕ) (o : Option Declared) → Leaves s.names (judged_name x o s)
-  name_leaves x None = err_leaves s.names (at_node (next_node s) (Undeclared x))
-  name_leaves x (Some d) = has_leaves _ d.type d.means _ s tt
-
-  text_leaves : (type : TypeTree) (role : Role) → Leaves s.names (judged_text type role s)
-  text_leaves type role =
-      if_leaves s.names (is_filled_by_text role) _ _ (has_leaves [] type Nothing _ s tt)
-      (has_leaves _ type (Static s.statics) _ (record s { statics = s.statics + 1 }) tt)
-
-  decl_name_leaves : (x : List ℕ) (role : Role) → Leaves s.names (judged_decl_name x role s)
-  decl_name_leaves x role =
-      if_leaves s.names (is_block_static role) _ _
-      (has_leaves [] Void (Static s.statics) _ (record s { statics = s.statics + 1 }) (tt, tt))
-      (has_leaves [] Void Nothing _ s (tt, tt))
-
-  enumerator_leaves : (x : List ℕ) (parts : List Part) → Leaves s.names (judged_enumerator x parts s)
-  enumerator_leaves x [] = has_leaves [] Int Nothing _ s tt
-  enumerator_leaves x (Value o ∷ []) = has_leaves [] Int Nothing _ s tt
-  enumerator_leaves x _ = err_leaves s.names (at_node (next_node s) Malformed)
-
-  entry_leaves : (entry_by : EntryBy) (role : Role) (parts : List Part) → Leaves s.names (judged_entry entry_by role parts s)
-  entry_leaves entry_by (EntryOf list next) parts = has_leaves _ _ Nothing _ s tt
-  entry_leaves entry_by _ parts = err_leaves s.names (at_node (next_node s) Malformed)
-
-  as_leaves : (k : Kind) (operands : List Operand) (m : Result Verdict Rule) → Leaves s.names (judged_as k operands m s)
-  as_leaves k operands (Ok w) = has_leaves [] w.type Nothing _ s tt
-  as_leaves k operands (Err rule) = err_leaves s.names (at_node (next_node s) rule)
-
-  expression_leaves : (k : Kind) (role : Role) (operands : Option (List Operand)) → Leaves s.names (judged_expression k role operands s)
-  expression_leaves k role None = err_leaves s.names (at_node (next_node s) Malformed)
-  expression_leaves k role (Some operands) = as_leaves k operands (verdict s.tags (is_whole role) k operands)
-
-  judged_leaves : (asked : List Step → Type 0) (k : Kind) (f : Frame) (parts : List Part) → LevelsAreInt s.names → PartsAreInt asked parts
-      → Leaves (if closes_level k then around s.names else s.names) (judged k f parts s)
-  judged_leaves asked (kind.Declaration spec inits) f parts v h = has_leaves _ Void Nothing Statement s tt
-  judged_leaves asked (kind.Function spec) f parts v h = has_leaves _ Void Nothing Statement (close_level s) tt
-  judged_leaves asked (kind.Member spec) f parts v h = has_leaves _ Void Nothing _ s tt
-  judged_leaves asked (kind.EnumConst x valued) f parts v h = enumerator_leaves x parts
-  judged_leaves asked (kind.DeclName x) f parts v h = decl_name_leaves x f.context.role
-  judged_leaves asked (kind.Star volatiles) f parts v h = has_leaves [] Void Nothing _ s (steps_append (inner_steps parts) _ (inner_int asked parts h) (tt, tt))
-  judged_leaves asked (kind.Brackets inner sized) f parts v h = brackets_leave asked parts h
-  judged_leaves asked (kind.Params inner void_word) f parts v h =
-      has_leaves [] Void Nothing _ (close_level s)
-      (steps_append (inner_steps parts) _ (inner_int asked parts h) (innermost_int s.names v, tt))
-  judged_leaves asked kind.DeclParens f parts v h = has_leaves [] Void Nothing _ s (steps_append (inner_steps parts) _ (inner_int asked parts h) (tt, tt))
-  judged_leaves asked (kind.Param spec) f parts v h = has_leaves _ _ Nothing _ s tt
-  judged_leaves asked (kind.NamedType spec) f parts v h = has_leaves _ _ _ _ s tt
-  judged_leaves asked (kind.InitList comma) f parts v h = has_leaves [] _ Nothing _ s tt
-  judged_leaves asked (kind.Entry entry_by equals) f parts v h = entry_leaves entry_by f.context.role parts
-  judged_leaves asked kind.Block f parts v h = has_leaves [] Void Nothing Statement (close_block s) tt
-  judged_leaves asked kind.Expression f parts v h = has_leaves [] Void Nothing Statement s tt
-  judged_leaves asked kind.If f parts v h = has_leaves _ Void Nothing Statement s tt
-  judged_leaves asked kind.While f parts v h = has_leaves _ Void Nothing Statement s tt
-  judged_leaves asked kind.Do f parts v h = has_leaves _ Void Nothing Statement s tt
-  judged_leaves asked (kind.For first test step) f parts v h = has_leaves _ Void Nothing Statement s tt
-  judged_leaves asked kind.Switch f parts v h = has_leaves _ Void Nothing Statement s tt
-  judged_leaves asked kind.Case f parts v h = has_leaves _ Void Nothing _ s tt
-  judged_leaves asked kind.Default f parts v h = has_leaves [] Void Nothing DefaultLabel s tt
-  judged_leaves asked kind.Break f parts v h = has_leaves _ Void Nothing Statement s tt
-  judged_leaves asked kind.Continue f parts v h = has_leaves _ Void Nothing Statement s tt
-  judged_leaves asked kind.Return f parts v h = has_leaves _ Void Nothing Statement s tt
-  judged_leaves asked (kind.Name x) f parts v h = name_leaves x (in_levels x s.names)
-  judged_leaves asked (kind.Text texts) f parts v h = text_leaves (text_type texts) f.context.role
-  judged_leaves asked k f parts v h = expression_leaves k f.context.role (operands_of parts)
-
 -- WHAT PARTS MEAN
 
 abbrev Meaning : Kind → Known → Judged → Type 0
-Meaning k s m = (r : Part × Known) → m ≡ Ok r → Settles k s r.1 × PartIsInt (Asked k r.1) r.0
+Meaning k s m = (r : Part × Known) → m ≡ Ok r → Settles k s r.1 × PartIs IsInt (Asked k r.1) r.0
 
-ok_meaning : (k : Kind) (s q : Known) (part : Part) → Settles k s q → PartIsInt (Asked k q) part → Meaning k s (Ok (part, q))
-ok_meaning k s q part h f r e = let z : (part, q) ≡ r = cc in subst (λ x. Settles k s x.1 × PartIsInt (Asked k x.1) x.0) z (h, f)
+ok_meaning : (k : Kind) (s q : Known) (part : Part) → Settles k s q → PartIs IsInt (Asked k q) part → Meaning k s (Ok (part, q))
+ok_meaning k s q part h f r e = let z : (part, q) ≡ r = cc in subst (λ x. Settles k s x.1 × PartIs IsInt (Asked k x.1) x.0) z (h, f)
 
 if_meaning : (k : Kind) (s : Known) (c : Bool) (x y : Judged) → Meaning k s x → Meaning k s y → Meaning k s (if c then x else y)
 if_meaning k s true x y h g = h
 if_meaning k s false x y h g = g
 
-unless_meaning : (k : Kind) (s q : Known) (broken : List Broken) (part : Part) → Settles k s q → PartIsInt (Asked k q) part → Meaning k s (unless broken (part, q))
+unless_meaning : (k : Kind) (s q : Known) (broken : List Broken) (part : Part) → Settles k s q → PartIs IsInt (Asked k q) part → Meaning k s (unless broken (part, q))
 unless_meaning k s q broken part h f r e = ok_meaning k s q part h f r (ap (λ x. Ok x) (unless_of broken (part, q) r e))
 
 no_rules : {A : Type 0} (number : ℕ) (rules : List Rule) (x y : A) → unless (broken_rules number rules) x ≡ Ok y → rules ≡ []
@@ -446,7 +182,7 @@ if_plain : (c : Bool) (x y : Meant) → value_of x ≡ [] → value_of y ≡ [] 
 if_plain true x y h g = h
 if_plain false x y h g = g
 
-module _ (s : Known) (v : LevelsAreInt s.names) where
+module _ (s : Known) (v : LevelsAre IsInt s.names) where
   meaning_plain : (d : Declaring) (n : NameNode) (type : TypeTree) (types : List TypeTree) → value_of (meant_in s.means n.number) ≡ []
       → value_of (declared_meaning d n type (record s { types = types })) ≡ []
   meaning_plain d n type types h =
@@ -472,11 +208,11 @@ module _ (s : Known) (v : LevelsAreInt s.names) where
       (record { found = new; there = ap (λ c. if c then Some new else in_level n.name (innermost s.names)) (same_self n.name); plain = plain })))
       r made.2
 
-  body_meaning : (steps : List Step) (x : Part × Known) → StepsAreInt steps → LevelsAreInt x.1.names → PartIsInt Any x.0
-      → (r : Part × Known) → with_body_open steps x ≡ Ok r → LevelsAreInt r.1.names × PartIsInt Any r.0
+  body_meaning : (steps : List Step) (x : Part × Known) → StepsAre IsInt steps → LevelsAre IsInt x.1.names → PartIs IsInt Any x.0
+      → (r : Part × Known) → with_body_open steps x ≡ Ok r → LevelsAre IsInt r.1.names × PartIs IsInt Any r.0
   body_meaning steps x h a g r e =
       let z : (x.0, open_body steps (record x.1 { autos = parameter_count (object_type (Some x.0) Void) })) ≡ r = cc in
-      subst (λ y. LevelsAreInt y.1.names × PartIsInt Any y.0) z ((list_int (own_list steps) (own_int steps h), a), g)
+      subst (λ y. LevelsAre IsInt y.1.names × PartIs IsInt Any y.0) z ((list_is IsInt (own_list steps) (own_is IsInt steps h), a), g)
 
   types_settle : (k : Kind) (types : List TypeTree) → Settles k s (record s { types = types })
   types_settle k types = same_settles k s (record s { types = types }) v refl
@@ -516,7 +252,7 @@ module _ (s : Known) (v : LevelsAreInt s.names) where
       let made = then_of (closed s.tags ByNothing f.base steps s.types) (λ made. Ok (Object made.0 steps (last_node s) Plain, record s { types = made.1 })) r e in
       ok_meaning (kind.NamedType spec) s (record s { types = made.0.1 }) _ (types_settle (kind.NamedType spec) made.0.1) tt r made.2
 
-  function_meaning : (spec : Spec) (f : Frame) (steps : List Step) → StepsAreInt steps → WaitsIn s steps
+  function_meaning : (spec : Spec) (f : Frame) (steps : List Step) → StepsAre IsInt steps → WaitsIn s steps
       → Meaning (kind.Function spec) s (and_then (declare_object (function_declaring f) ByNothing f.base steps (name_of steps) s) (with_body_open steps))
   function_meaning spec f steps h w r e =
       let x = then_of (declare_object (function_declaring f) ByNothing f.base steps (name_of steps) s) (with_body_open steps) r e in
@@ -525,7 +261,7 @@ module _ (s : Known) (v : LevelsAreInt s.names) where
       let b = body_meaning steps x.0 h a.int g.1 r x.2 in
       (record { int = b.0; keeps = λ i. cc }, b.1)
 
-  declared_meaning_of : (k : Kind) (f : Frame) (before : List Part) (steps : List Step) (rest : SyntaxRow) → StepsAreInt steps → WaitsIn s steps
+  declared_meaning_of : (k : Kind) (f : Frame) (before : List Part) (steps : List Step) (rest : SyntaxRow) → StepsAre IsInt steps → WaitsIn s steps
       → Meaning k s (declared k f before steps rest s)
   declared_meaning_of (kind.Declaration spec inits) f before steps rest h w =
       object_meaning (kind.Declaration spec inits) (object_declaring f (follows rest) s) (length_by (follows rest)) f.base steps (name_of steps) refl w
@@ -569,7 +305,7 @@ module _ (s : Known) (v : LevelsAreInt s.names) where
   retyped_settles : (k : Kind) (x : List ℕ) (type : TypeTree) (q : Known) → Held x (innermost s.names) → q.names ≡ retyped x type (innermost s.names) ∷ around s.names
       → Settles k s q
   retyped_settles k x type q h e = record {
-    int = subst (λ levels. LevelsAreInt levels) (sym e) (level_retyped x type (innermost s.names) (innermost_int s.names v) h, around_int s.names v);
+    int = subst (λ levels. LevelsAre IsInt levels) (sym e) (level_retyped x type (innermost s.names) (innermost_are IsInt s.names v) h, around_are IsInt s.names v);
     keeps = λ f. record {
       outside = ap around e;
       held = λ y g. subst (λ levels. Held y (innermost levels)) (sym e) (held_retyped y x type (innermost s.names) g);
@@ -588,24 +324,24 @@ module _ (s : Known) (v : LevelsAreInt s.names) where
   unchanged_settles k q m d e = let z : s ≡ q = cc in subst (λ x. Settles k s x) z (same_settles k s s v refl)
 
   given_settles : (k : Kind) (base : TypeTree) (object : Option Part) (part : Part) (q : Known)
-      → ObjectIsInt (λ steps. Held (name_in (name_of steps)) (innermost s.names)) object → with_length_given base object part s ≡ Ok q → Settles k s q
+      → ObjectIs IsInt (λ steps. Held (name_in (name_of steps)) (innermost s.names)) object → with_length_given base object part s ≡ Ok q → Settles k s q
   given_settles k base (Some (Object (Array element zero) steps last role)) part q h e =
       given_length_settles k base steps last (given_length part) (name_in (name_of steps)) q h e
   given_settles k base _ part q h e = unchanged_settles k q (Ok s) refl e
 
-  initialised_means : (k : Kind) (f : Frame) (before : List Part) (part : Part) → PartsAreInt (Asked k s) before
-      → ((q : Known) → PartIsInt (Asked k q) part) → Meaning k s (initialised k f before part s)
+  initialised_means : (k : Kind) (f : Frame) (before : List Part) (part : Part) → PartsAre IsInt (Asked k s) before
+      → ((q : Known) → PartIs IsInt (Asked k q) part) → Meaning k s (initialised k f before part s)
   initialised_means (kind.Declaration spec inits) f before part h l r e =
       let x = then_of (with_length_given f.base (last_object before) part s) _ r e in
       unless_meaning (kind.Declaration spec inits) s x.0 _ part
-      (given_settles (kind.Declaration spec inits) f.base (last_object before) part x.0 (last_int _ before h) x.1) (l x.0) r x.2
+      (given_settles (kind.Declaration spec inits) f.base (last_object before) part x.0 (last_is IsInt _ before h) x.1) (l x.0) r x.2
   initialised_means (kind.Entry entry_by equals) f before part h l r e =
       if_meaning (kind.Entry entry_by equals) s (is_index_next entry_by before) _ _
       (ok_meaning (kind.Entry entry_by equals) s s part (same_settles (kind.Entry entry_by equals) s s v refl) (l s))
       (unless_meaning (kind.Entry entry_by equals) s s _ part (same_settles (kind.Entry entry_by equals) s s v refl) (l s)) r e
   initialised_means k f before part h l r e = ok_meaning k s s part (same_settles k s s v refl) (l s) r e
 
-  behind_means : (k : Kind) (f : Frame) (before : List Part) (part : Part) (rest : SyntaxRow) → PartsAreInt (Asked k s) before → PartIsInt Never part
+  behind_means : (k : Kind) (f : Frame) (before : List Part) (part : Part) (rest : SyntaxRow) → PartsAre IsInt (Asked k s) before → PartIs IsInt Never part
       → ((steps : List Step) → part ≡ Declarator steps → WaitsIn s steps) → Meaning k s (behind k f before part rest s)
   behind_means k f before (Value o) rest h l w = initialised_means k f before (Value o) h (λ q. tt)
   behind_means k f before (Braced count) rest h l w = initialised_means k f before (Braced count) h (λ q. tt)
@@ -639,23 +375,23 @@ label_int kinds x (Some d) s r t at h l i e =
     λ word m.
     subst (λ y. is_integer y ≡ true) (sym type) (int_word d.type d.means word (i d refl) (sym means ∙ m))
 
-node_int : (kinds : List Kind) (k : Kind) (f : Frame) (parts : List Part) (s : Known) (r : Part × Known) (t : Typing) (at : ℕ) → AreKnown kinds s → LevelsAreInt s.names
+node_int : (kinds : List Kind) (k : Kind) (f : Frame) (parts : List Part) (s : Known) (r : Part × Known) (t : Typing) (at : ℕ) → AreKnown kinds s → LevelsAre IsInt s.names
     → Later (kinds ++ k ∷ []) r.1 t → judged k f parts s ≡ Ok r → NameIsInteger k (label_of t.types t.means (length kinds) at)
 node_int kinds (kind.Name x) f parts s r t at h v l e =
-    label_int kinds x (in_levels x s.names) s r t at h l (λ d i. in_levels_int x s.names d v i) e
+    label_int kinds x (in_levels x s.names) s r t at h l (λ d i. in_levels_are IsInt x s.names d v i) e
 node_int kinds k f parts s r t at h v l e = tt
 
 -- THE RECURSION
 
 record TreeInts (final : Typing) (kinds : List Kind) (t : Syntax) (s : Known) (r : Part × Known) : Type 0 where
-  int : LevelsAreInt r.1.names
+  int : LevelsAre IsInt r.1.names
   keeps : is_function_node (kind_at t) ≡ false → KeepsLevel s r.1
-  part_is : PartIsInt Never r.0
+  part_is : PartIs IsInt Never r.0
   names : Later (kinds_after kinds t) r.1 final → NamesAreIntegers (typed final.types final.means (length kinds) t)
 
 record RowInts (final : Typing) (kinds : List Kind) (k : Kind) (ts : SyntaxRow) (s : Known) (r : List Part × Known) : Type 0 where
   settles : Settles k s r.1
-  parts_are : PartsAreInt (Asked k r.1) r.0
+  parts_are : PartsAre IsInt (Asked k r.1) r.0
   names : Later (kinds_after_row kinds ts) r.1 final → AllNamesAreIntegers (typed_row final.types final.means (length kinds) ts)
 
 functionless : (t : Syntax) → HasNoFunction t → IsFunctionless t
@@ -670,16 +406,8 @@ node_keeps : (b : Bool) (s q x r : Known) → q.names ≡ (if b then [] ∷ s.na
 node_keeps true s q x r o a e = same_keeps s r (e ∙ (a.outside ∙ ap around o))
 node_keeps false s q x r o a e = then_keeps s q r (same_keeps s q o) (then_keeps q x r a (same_keeps x r e))
 
-opened_int : (b : Bool) (s q : Known) → LevelsAreInt s.names → q.names ≡ (if b then [] ∷ s.names else s.names) → LevelsAreInt q.names
-opened_int true s q v e = subst (λ levels. LevelsAreInt levels) (sym e) (tt, v)
-opened_int false s q v e = subst (λ levels. LevelsAreInt levels) (sym e) v
-
-left_int : (b : Bool) (x r : Known) → LevelsAreInt x.names → r.names ≡ (if b then around x.names else x.names) → LevelsAreInt r.names
-left_int true x r v e = subst (λ levels. LevelsAreInt levels) (sym e) (around_int x.names v)
-left_int false x r v e = subst (λ levels. LevelsAreInt levels) (sym e) v
-
 mutual
-  tree_ints : (final : Typing) (kinds : List Kind) (t : Syntax) (c : Context) (s : Known) → IsFunctionless t → AreKnown kinds s → LevelsAreInt s.names
+  tree_ints : (final : Typing) (kinds : List Kind) (t : Syntax) (c : Context) (s : Known) → IsFunctionless t → AreKnown kinds s → LevelsAre IsInt s.names
       → (r : Part × Known) → judge t c s ≡ Ok r → TreeInts final kinds t s r
   tree_ints final kinds (node k at parts) c s n h v r e =
       let z = with_rules_is _ (role_rules c.role k) (and_then (judge_parts k (opened k c s).0 [] parts (opened k c s).1) _) r e in
@@ -690,11 +418,11 @@ mutual
       let p = row_stays kinds k (opened k c s).0 [] parts q known tt x.0 x.1 in
       let inside = kinds_after_row kinds parts in
       let j = judged_adds inside k (opened k c s).0 x.0.0 x.0.1 p.known p.opens r x.2 in
-      let row = row_ints final kinds k (opened k c s).0 [] parts q n known tt (opened_int (opens_level k) s q v o) tt x.0 x.1 in
+      let row = row_ints final kinds k (opened k c s).0 [] parts q n known tt (opened_are IsInt (opens_level k) s q v o) tt x.0 x.1 in
       let b = row.settles in
-      let a = judged_leaves x.0.1 (Asked k x.0.1) k (opened k c s).0 x.0.0 b.int row.parts_are r x.2 in
+      let a = judged_leaves IsInt x.0.1 (Asked k x.0.1) k (opened k c s).0 x.0.0 b.int row.parts_are r x.2 in
       record {
-        int = left_int (closes_level k) x.0.1 r.1 b.int a.0;
+        int = left_are IsInt (closes_level k) x.0.1 r.1 b.int a.0;
         keeps = λ f. node_keeps (opens_level k) s q x.0.1 r.1 o (b.keeps f)
             (a.0 ∙ ap (λ y. if y then around x.0.1.names else x.0.1.names) (same_level k f));
         part_is = a.1;
@@ -707,7 +435,7 @@ mutual
       }
 
   row_ints : (final : Typing) (kinds : List Kind) (k : Kind) (f : Frame) (before : List Part) (ts : SyntaxRow) (s : Known) → HaveNoFunctions ts → AreKnown kinds s
-      → AllHaveOpen kinds before → LevelsAreInt s.names → PartsAreInt (Asked k s) before → (r : List Part × Known) → judge_parts k f before ts s ≡ Ok r
+      → AllHaveOpen kinds before → LevelsAre IsInt s.names → PartsAre IsInt (Asked k s) before → (r : List Part × Known) → judge_parts k f before ts s ≡ Ok r
       → RowInts final kinds k ts s r
   row_ints final kinds k f before none s n h b v a r e =
       let z : (before, s) ≡ r = cc in
@@ -721,15 +449,15 @@ mutual
       let first = tree_ints final kinds t (context k f before (kind_at t) s) s (functionless t n.0) h v x.0 x.1 in
       let kept = first.keeps (rootless t n.0) in
       let second = behind_means x.0.1 first.int k f before x.0.0 ts
-      (parts_asked (Asked k s) (Asked k x.0.1) (asked_kept k s x.0.1 (λ g. kept)) before a) first.part_is
+      (parts_asked IsInt (Asked k s) (Asked k x.0.1) (asked_kept k s x.0.1 (λ g. kept)) before a) first.part_is
       (λ steps d m i.
       let w = tree_name t (context k f before (kind_at t) s) s x.0 (h.means ∙ sym h.types) x.1 steps d m i in
       w.waits)
       y.0 y.1 in
       let done = second.0 in
-      let held = parts_asked (Asked k s) (Asked k y.0.1) (asked_kept k s y.0.1 (λ g. then_keeps s x.0.1 y.0.1 kept (done.keeps g))) before a in
+      let held = parts_asked IsInt (Asked k s) (Asked k y.0.1) (asked_kept k s y.0.1 (λ g. then_keeps s x.0.1 y.0.1 kept (done.keeps g))) before a in
       let others = row_ints final later k f (before ++ y.0.0 ∷ []) ts y.0.1 n.1 p.known p.opens done.int
-      (parts_append (Asked k y.0.1) before y.0.0 held second.1) r y.2 in
+      (parts_append IsInt (Asked k y.0.1) before y.0.0 held second.1) r y.2 in
       record {
         settles = then_settles k s y.0.1 r.1
             (record { int = done.int; keeps = λ g. then_keeps s x.0.1 y.0.1 kept (done.keeps g) })
@@ -749,7 +477,7 @@ record ItemsInts (final : Typing) (kinds : List Kind) (items : SyntaxRow) (s r :
   stay : Stays kinds s r
   names : Later (kinds_after_row kinds items) r final → AllNamesAreIntegers (typed_row final.types final.means (length kinds) items)
 
-items_int : (final : Typing) (kinds : List Kind) (items : SyntaxRow) (s : Known) → FunctionsAreItems items → AreKnown kinds s → LevelsAreInt s.names → (r : Known)
+items_int : (final : Typing) (kinds : List Kind) (items : SyntaxRow) (s : Known) → FunctionsAreItems items → AreKnown kinds s → LevelsAre IsInt s.names → (r : Known)
     → judge_items items s ≡ Ok r → ItemsInts final kinds items s r
 items_int final kinds none s n h v r e =
     let z : s ≡ r = cc in subst (λ x. ItemsInts final kinds none s x) z (record { stay = still kinds s; names = λ l. tt })
@@ -766,7 +494,7 @@ items_int final kinds (more t ts) s n h v r e =
           (first.names m, subst (λ i. AllNamesAreIntegers (typed_row final.types final.means i ts)) (length_after kinds t) (others.names l));
     }
 
-first_int : (bodies : List (List ℕ)) → LevelsAreInt (known_first bodies).names
+first_int : (bodies : List (List ℕ)) → LevelsAre IsInt (known_first bodies).names
 first_int bodies = ((tt, (tt, (tt, tt))), tt)
 
 pub items_name_integers : ItemsNameIntegers
