@@ -1,5 +1,5 @@
 -- Symbols of the program, as plain data.
-use Rattle.std.specs.Prelude.{ℕ, Bool, true, List, [], ◌∷◌, ◌++◌, map, Option, Some, None, Ok, codes, decimal}
+use Rattle.std.specs.Prelude.{ℕ, List, [], ◌∷◌, ◌++◌, map, Option, Some, None, Ok, codes, decimal}
 use Rattle.p9_lang.specs.declared.module.Module.{Module}
 use Rattle.p9_lang.specs.Types.{type_of, tags_of}
 use Rattle.p9_lang.specs.Initialisers.{Bytes, text_bytes, first_writes}

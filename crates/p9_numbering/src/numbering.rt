@@ -1,5 +1,5 @@
 // The numbers of symbols.
-ghost use Rattle.std.specs.Prelude.{◌≡◌, ℕ, List, IfOk, OnOk, bytes_eq, nat_eq};
+ghost use Rattle.std.specs.Prelude.{◌≡◌, ◌+◌, ℕ, List, IfOk, OnOk, bytes_eq, nat_eq};
 ghost use Rattle.std.specs.Option.{option_or};
 ghost use Rattle.p9_lower.specs.Names.{outer_symbol, static_symbol};
 ghost use Rattle.p9_numbering.specs.Told.{symbols_told};
@@ -30,11 +30,7 @@ fn note_outer<'a>(
 }
 
 // Notes a symbol's number for the number of a text or block static that has none.
-fn note_static(
-    statics: &mut IndexMap<u32, u32>,
-    name: u32,
-    number: u32,
-) -> Result<(), NoMemory>
+fn note_static(statics: &mut IndexMap<u32, u32>, name: u32, number: u32) -> Result<(), NoMemory>
     ensures { OnOk result ((q : ℕ) → static_held statics.new.entries q
         ≡ option_or (static_held statics.old.entries q) (noted (nat_eq q name) number)) }
 {
@@ -45,6 +41,7 @@ fn note_static(
 }
 
 // Notes the number of a symbol, where it is the first with its title.
+#[tactic(auto, using(crate::proofs::Noting::same_bytes, crate::proofs::Noting::same_number))]
 fn note_symbol<'a>(
     outers: &mut IndexMap<&'a [u8], u32>,
     statics: &mut IndexMap<u32, u32>,
@@ -63,8 +60,15 @@ fn note_symbol<'a>(
     Ok(())
 }
 
+fn following(number: u32) -> Result<u32, NoMemory>
+    ensures { IfOk result (λ n. n ≡ number + 1) }
+{
+    number.checked_add(1).ok_or(NoMemory)
+}
+
 impl<'a> Numbering<'a> {
     /// Numbers the symbols.
+    #[tactic(auto, using(crate::proofs::Noting::all_outers, crate::proofs::Noting::all_statics))]
     pub fn new(
         alloc: Global,
         source: &'a Source<'a>,
@@ -78,7 +82,7 @@ impl<'a> Numbering<'a> {
         let mut rest = symbols;
         'symbols: while let [symbol, after @ ..] = rest {
             note_symbol(&mut outers, &mut statics, &symbol.title, number)?;
-            number = number.checked_add(1).ok_or(NoMemory)?;
+            number = following(number)?;
             rest = after;
         }
         Ok(Numbering {
