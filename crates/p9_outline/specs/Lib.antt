@@ -1,0 +1,4 @@
+pub mod Held
+pub mod Summaries
+pub mod Told
+pub mod Locals
