@@ -1,11 +1,12 @@
 -- Walks over items and their parts, one after the other.
-use Rattle.std.proofs.Common.{◌≡◌, ℕ, Bool, true, false, ◌&&◌, List, [], ◌∷◌, ◌++◌, map, Option, Some, None, Result, refl, sym, ap, ◌∙◌, append_assoc, append-nil}
+use Rattle.std.proofs.Common.{◌≡◌, ℕ, Bool, true, false, ◌&&◌, List, [], ◌∷◌, ◌++◌, map, Option, Some, None, Result, Ok, refl, sym, ap, ◌∙◌, append_assoc, append-nil, map-append}
 use Rattle.std.specs.Prelude.{if◌then◌else◌}
 use Rattle.p9_lang.specs.declared.tree.Kind.{Kind}
+use Rattle.p9_lang.specs.declared.tree.Kind.TheVariants as kind
 use Rattle.p9_lang.specs.Trees.{node, none, more}
 use Rattle.p9_lang.specs.Types.{TypeTree, Tags, Meant, Nothing, Outer, Static, Auto, EnumValue, TypeName}
 use Rattle.p9_lang.specs.Parts.{is_declarator}
-use Rattle.p9_lang.specs.Initialisers.{Write, BrokenItem}
+use Rattle.p9_lang.specs.Initialisers.{Write, Bytes, text_bytes, BrokenItem}
 use Rattle.p9_lang.specs.Modules.{Label, Typed, TypedRow}
 use Rattle.p9_lang.specs.Symbols.{Declaration, declarations_in, declarations, declared_by, declared_body, declares, way_of, label_type, name_label, initialiser, kind_of_node, Body, Symbol, LocalObject, local_symbol, local_objects_in, static_at, text_at, writes_of, is_declaration}
 use Rattle.p9_outline.specs.Summaries.{Summary, declare_all}
@@ -75,3 +76,49 @@ static_meant tags value label found e = static_by tags value label.number label.
 -- what is put behind symbols
 pub behind : (before after rest : List Symbol) (xs ys : List LocalObject) → after ≡ before ++ map local_symbol xs → xs ≡ ys → after ≡ before ++ map local_symbol ys
 behind before after rest xs ys e h = e ∙ ap (λ l. before ++ map local_symbol l) h
+
+first_text : TypeTree → List (List ℕ) → Contents
+first_text type texts = Some (Ok (record { offset = 0; type = type; content = Bytes (text_bytes texts ++ 0 ∷ []) } ∷ []))
+
+text_by : (texts : List (List ℕ)) (number token : ℕ) (type : TypeTree) (means : Meant)
+    → object_of (first_text type texts) type means ≡ text_at (kind.Text texts) (record { number = number; token = token; type = type; means = means })
+text_by texts number token type Nothing = refl
+text_by texts number token type (Outer name) = refl
+text_by texts number token type (Static n) = refl
+text_by texts number token type (Auto n) = refl
+text_by texts number token type (EnumValue n) = refl
+text_by texts number token type (TypeName other) = refl
+
+pub text_meant : (texts : List (List ℕ)) (label : Label) → meant_object (first_text label.type texts) label ≡ text_at (kind.Text texts) label
+text_meant texts label = text_by texts label.number label.token label.type label.means
+
+joined_locals : (before : List Symbol) (as bs cs rest : List LocalObject)
+    → ((before ++ map local_symbol as) ++ map local_symbol bs) ++ map local_symbol cs ++ map local_symbol rest
+    ≡ before ++ map local_symbol (as ++ ((bs ++ cs) ++ rest))
+joined_locals before as bs cs rest = simp (map-append, append_assoc)
+
+abbrev own_objects : Tags → Bool → Kind → Label → TypedRow → TypedRow → List LocalObject
+own_objects tags declared k label parts others =
+    if declared && is_declarator k then static_at tags (initialiser others) (name_label (node k label parts)) else []
+
+pub locals_passed : (tags : Tags) (declared : Bool) (row others parts : TypedRow) (k : Kind) (label : Label) (s0 s1 s2 s3 all : List Symbol)
+    → row ≡ more (node k label parts) others
+    → s1 ≡ s0 ++ map local_symbol (own_objects tags declared k label parts others)
+    → s2 ≡ s1 ++ map local_symbol (local_objects_in tags (is_declaration k) parts)
+    → s3 ≡ s2 ++ map local_symbol (text_at k label)
+    → s0 ++ map local_symbol (local_objects_in tags declared row) ≡ all
+    → s3 ++ map local_symbol (local_objects_in tags declared others) ≡ all
+locals_passed tags declared row others parts k label s0 s1 s2 s3 all e a b c g =
+    let own = own_objects tags declared k label parts others in
+    let inner = local_objects_in tags (is_declaration k) parts in
+    let rest = local_objects_in tags declared others in
+    ap (λ s. s ++ map local_symbol rest) (c ∙ ap (λ s. s ++ map local_symbol (text_at k label)) (b ∙ ap (λ s. s ++ map local_symbol inner) a))
+    ∙ append_assoc ((s0 ++ map local_symbol own) ++ map local_symbol inner) (map local_symbol (text_at k label)) (map local_symbol rest)
+    ∙ joined_locals s0 own inner (text_at k label) rest
+    ∙ ap (λ r. s0 ++ map local_symbol (local_objects_in tags declared r)) (sym e)
+    ∙ g
+
+pub locals_over : (tags : Tags) (declared : Bool) (row : TypedRow) (old all : List Symbol) → row ≡ none
+    → old ++ map local_symbol (local_objects_in tags declared row) ≡ all → old ≡ all
+locals_over tags declared row old all e g =
+    sym (append-nil old) ∙ ap (λ r. old ++ map local_symbol (local_objects_in tags declared r)) (sym e) ∙ g

@@ -3,7 +3,7 @@ ghost use Rattle.std.specs.Prelude.{◌≡◌, if◌then◌else◌, [], OnOk};
 ghost use Rattle.p9_lang.specs.declared.module.Module.{Module};
 ghost use Rattle.p9_lang.specs.Types.{type_of, tags_of};
 ghost use Rattle.p9_lang.specs.Parts as parts;
-ghost use Rattle.p9_lang.specs.Symbols.{Way, way_of, name_label, label_type, declares, declared_by, declared_body, declarations_in, declarations};
+ghost use Rattle.p9_lang.specs.Symbols.{Way, Body, way_of, name_label, label_type, declares, declared_by, declared_body, declarations_in, declarations};
 ghost use Rattle.p9_lang.specs.Symbols as symbols;
 ghost use Rattle.p9_nodes.specs.Nodes.{label_of, node_in, row_in};
 ghost use Rattle.p9_nodes.specs.Arities.{told_one};
@@ -102,6 +102,7 @@ fn declare_where<'a>(
     Ok(())
 }
 
+#[tactic(auto, using(crate::proofs::Walking::part_declared, crate::proofs::Walking::parts_declared))]
 fn declare_parts<'a>(
     names: &mut Names<'a>,
     source: &'a Source<'a>,
@@ -138,6 +139,7 @@ fn declare_function<'a>(
     Ok(())
 }
 
+#[tactic(auto, using(crate::proofs::Walking::body_passed, crate::proofs::Walking::body_found, crate::proofs::Walking::no_body))]
 fn declare_body<'a>(
     names: &mut Names<'a>,
     source: &'a Source<'a>,
@@ -222,6 +224,7 @@ fn declare_item<'a>(
 }
 
 /// Adds what the items of a module declare.
+#[tactic(auto, using(crate::proofs::Walking::item_declared, crate::proofs::Walking::items_declared))]
 pub(crate) fn declare_items<'a>(
     names: &mut Names<'a>,
     source: &'a Source<'a>,

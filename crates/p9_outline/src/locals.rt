@@ -214,6 +214,7 @@ fn is_declaration(kind: &Kind) -> bool
     }
 }
 
+#[tactic(auto, using(crate::proofs::Walking::locals_passed, crate::proofs::Walking::locals_over))]
 fn push_within<'a>(
     alloc: Global,
     symbols: &mut Vec<OutlineSymbol<'a>>,

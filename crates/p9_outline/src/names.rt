@@ -28,7 +28,6 @@ impl<'a> NameSet<'a> {
         self.set.contains(name)
     }
 
-    #[tactic(auto, using(crate::proofs::Sets::name_added))]
     pub(crate) fn add(&mut self, name: &'a [u8]) -> Result<(), NoMemory>
         ensures { OnOk result ((q : List ℕ) → has_name self.new.set.keys q
             ≡ (has_name self.old.set.keys q || same_name q name.now)) }

@@ -9,6 +9,7 @@ use p9_lang::Ident;
 use std::alloc::Global;
 
 /// These names as a set.
+#[tactic(auto, using(crate::proofs::Sets::name_passed, crate::proofs::Sets::none_left))]
 pub(crate) fn set_of<'a>(alloc: Global, names: &'a [Ident]) -> Result<NameSet<'a>, NoMemory>
     ensures { IfOk result (λ s. (q : List ℕ) → has_name s.set.keys q ≡ is_among names.now q) }
 {

@@ -95,7 +95,6 @@ impl<'a> Names<'a> {
     }
 
     /// Adds one declaration.
-    #[tactic(auto, using(crate::proofs::Telling::told_one_more))]
     pub(crate) fn declare(
         &mut self,
         name: &'a [u8],

@@ -96,6 +96,7 @@ fn use_node<'a>(used: &mut NameSet<'a>, node: TypedNode<'a>) -> Result<(), NoMem
     }
 }
 
+#[tactic(auto, using(crate::proofs::Sets::node_used, crate::proofs::Sets::none_used))]
 fn use_within<'a>(
     used: &mut NameSet<'a>,
     source: &'a Source<'a>,
