@@ -13,7 +13,7 @@ use Rattle.p9_outline.specs.declared.summary.Known.{Known}
 use Rattle.p9_outline.specs.Summaries.{Summary, unknown, with_one, summary_in, declare_one, declare_all}
 use Rattle.p9_outline.specs.Told.{told_known, told_entries}
 
-told_found : Module → Option Known → Option Summary
+abbrev told_found : Module → Option Known → Option Summary
 told_found m None = None
 told_found m (Some known) = Some (told_known m known)
 

@@ -92,9 +92,9 @@ text_by texts number token type (TypeName other) = refl
 pub text_meant : (texts : List (List ℕ)) (label : Label) → meant_object (first_text label.type texts) label ≡ text_at (kind.Text texts) label
 text_meant texts label = text_by texts label.number label.token label.type label.means
 
-joined_locals : (before : List Symbol) (as bs cs rest : List LocalObject)
-    → ((before ++ map local_symbol as) ++ map local_symbol bs) ++ map local_symbol cs ++ map local_symbol rest
-    ≡ before ++ map local_symbol (as ++ ((bs ++ cs) ++ rest))
+joined_locals : (before : List Symbol) (xs bs cs rest : List LocalObject)
+    → ((before ++ map local_symbol xs) ++ map local_symbol bs) ++ map local_symbol cs ++ map local_symbol rest
+    ≡ before ++ map local_symbol (xs ++ ((bs ++ cs) ++ rest))
 joined_locals before as bs cs rest = simp (map-append, append_assoc)
 
 abbrev own_objects : Tags → Bool → Kind → Label → TypedRow → TypedRow → List LocalObject

@@ -1,5 +1,6 @@
 // The system calls, which every file knows.
-ghost use Rattle.std.specs.Prelude.{◌≡◌, IfOk};
+ghost use Rattle.std.specs.Prelude.{◌≡◌, IfOk, codes};
+ghost use Rattle.p9_lang.specs.Names.{same_name};
 ghost use Rattle.p9_lang.specs.Types.{type_of, Pointer};
 ghost use Rattle.p9_lang.specs.Scopes.{exits_type, transfer_type, system_type};
 
@@ -35,11 +36,18 @@ fn transfer_type(alloc: Global) -> Result<CType, NoMemory>
     Ok(CType::Function(Boxed::new(alloc, CType::Long)?, parameters))
 }
 
+#[tactic(auto, using(p9_numbering::proofs::Noting::same_bytes))]
+fn is_exits(name: &[u8]) -> bool
+    ensures { result ≡ same_name name.now (codes "exits") }
+{
+    name == b"exits".as_slice()
+}
+
 /// The type of the system call with this name.
 pub(crate) fn system_type(alloc: Global, name: &[u8]) -> Result<CType, NoMemory>
     ensures { IfOk result (λ t. type_of t ≡ system_type name.now) }
 {
-    if name == b"exits".as_slice() {
+    if is_exits(name) {
         return exits_type(alloc);
     }
     transfer_type(alloc)

@@ -9,12 +9,12 @@ use Rattle.p9_outline.proofs.locals.+push_within.Given as goal
 abbrev pub decreases-push_within : goal.decreases-push_within
 decreases-push_within l = l.levels
 
-abbrev pub invariant-push_within-parts : goal.invariant-push_within-parts
-invariant-push_within-parts l =
+abbrev pub invariant-parts : goal.invariant-parts
+invariant-parts l =
     symbols_told l.source.typed.now l.symbols.items
     ++ map local_symbol (local_objects_in (tags_of l.source.typed.now.tags.list) l.are_declared (row_in l.source.typed.now l.rest))
     ≡ symbols_told l.source.typed.now l.initial.symbols.items
     ++ map local_symbol (local_objects_in (tags_of l.source.typed.now.tags.list) l.are_declared (row_in l.source.typed.now l.row))
 
-abbrev pub decreases-push_within-parts : goal.decreases-push_within-parts
-decreases-push_within-parts l = count_of (row_in l.source.typed.now l.rest)
+abbrev pub decreases-parts : goal.decreases-parts
+decreases-parts l = count_of (row_in l.source.typed.now l.rest)

@@ -9,9 +9,9 @@ use Rattle.p9_outline.proofs.uses.+use_within.Given as goal
 abbrev pub decreases-use_within : goal.decreases-use_within
 decreases-use_within l = l.levels
 
-abbrev pub invariant-use_within-parts : goal.invariant-use_within-parts
-invariant-use_within-parts l = (q : List ℕ) → (has_name l.used.set.keys q || is_among (uses_in_row (row_in l.source.typed.now l.rest)) q)
+abbrev pub invariant-parts : goal.invariant-parts
+invariant-parts l = (q : List ℕ) → (has_name l.used.set.keys q || is_among (uses_in_row (row_in l.source.typed.now l.rest)) q)
     ≡ (has_name l.initial.used.set.keys q || is_among (uses_in_row (row_in l.source.typed.now l.row)) q)
 
-abbrev pub decreases-use_within-parts : goal.decreases-use_within-parts
-decreases-use_within-parts l = count_of (row_in l.source.typed.now l.rest)
+abbrev pub decreases-parts : goal.decreases-parts
+decreases-parts l = count_of (row_in l.source.typed.now l.rest)
