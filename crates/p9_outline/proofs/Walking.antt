@@ -74,10 +74,10 @@ pub static_meant : (tags : Tags) (value : Option Typed) (label : Label) (found :
 static_meant tags value label found e = static_by tags value label.number label.token label.type label.means ∙ ap (static_at tags value) e
 
 -- what is put behind symbols
-pub behind : (before after rest : List Symbol) (xs ys : List LocalObject) → after ≡ before ++ map local_symbol xs → xs ≡ ys → after ≡ before ++ map local_symbol ys
-behind before after rest xs ys e h = e ∙ ap (λ l. before ++ map local_symbol l) h
+pub behind : (before after : List Symbol) (xs ys : List LocalObject) → after ≡ before ++ map local_symbol xs → xs ≡ ys → after ≡ before ++ map local_symbol ys
+behind before after xs ys e h = e ∙ ap (λ l. before ++ map local_symbol l) h
 
-first_text : TypeTree → List (List ℕ) → Contents
+abbrev pub first_text : TypeTree → List (List ℕ) → Contents
 first_text type texts = Some (Ok (record { offset = 0; type = type; content = Bytes (text_bytes texts ++ 0 ∷ []) } ∷ []))
 
 text_by : (texts : List (List ℕ)) (number token : ℕ) (type : TypeTree) (means : Meant)
