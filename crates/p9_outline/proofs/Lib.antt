@@ -1,3 +1,4 @@
 pub mod Sets
 pub mod Telling
 pub mod Walking
+pub mod Pushing

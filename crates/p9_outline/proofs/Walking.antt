@@ -95,7 +95,7 @@ text_meant texts label = text_by texts label.number label.token label.type label
 joined_locals : (before : List Symbol) (xs bs cs rest : List LocalObject)
     → ((before ++ map local_symbol xs) ++ map local_symbol bs) ++ map local_symbol cs ++ map local_symbol rest
     ≡ before ++ map local_symbol (xs ++ ((bs ++ cs) ++ rest))
-joined_locals before as bs cs rest = simp (map-append, append_assoc)
+joined_locals before xs bs cs rest = simp (map-append, append_assoc)
 
 abbrev own_objects : Tags → Bool → Kind → Label → TypedRow → TypedRow → List LocalObject
 own_objects tags declared k label parts others =
