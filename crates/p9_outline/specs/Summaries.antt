@@ -70,6 +70,6 @@ makes_symbol is_local is_used summary =
 abbrev pub symbols_by : (is_local is_used : Bool) → List ℕ × Summary → List Symbol
 symbols_by is_local is_used e = if makes_symbol is_local is_used e.1 then symbol_by is_local is_used e ∷ [] else []
 
-abbrev pub outer_symbols : (local used : List ℕ → Bool) → List (List ℕ × Summary) → List Symbol
-outer_symbols local used [] = []
-outer_symbols local used (e ∷ es) = symbols_by (local e.0) (used e.0) e ++ outer_symbols local used es
+abbrev pub outer_symbols : (local used : List ℕ → Bool) → (known : List ℕ → Summary) → List (List ℕ) → List Symbol
+outer_symbols local used known [] = []
+outer_symbols local used known (x ∷ xs) = symbols_by (local x) (used x) (x, known x) ++ outer_symbols local used known xs

@@ -6,7 +6,7 @@ use Rattle.p9_lang.specs.declared.types.CType.{CType}
 use Rattle.p9_lang.specs.Types.{TypeTree, type_of}
 use Rattle.p9_numbering.specs.Told.{told_form}
 use Rattle.p9_outline.specs.declared.summary.Known.{Known}
-use Rattle.p9_outline.specs.Summaries.{Summary}
+use Rattle.p9_outline.specs.Summaries.{Summary, summary_in}
 
 abbrev pub told_first : Option (Bor CType) → Option TypeTree
 told_first None = None
@@ -20,3 +20,10 @@ told_entry m e = (e.0.now, told_known m e.1)
 
 abbrev pub told_entries : Module → List (Bor (List ℕ) × Known) → List (List ℕ × Summary)
 told_entries m es = map (told_entry m) es
+
+-- the names that are known, and what is known of each
+abbrev pub names_told : List (Bor (List ℕ) × Known) → List (List ℕ)
+names_told es = map (λ e. e.0.now) es
+
+abbrev pub known_told : Module → List (Bor (List ℕ) × Known) → List ℕ → Summary
+known_told m es name = summary_in name (told_entries m es)

@@ -7,7 +7,7 @@ ghost use Rattle.p9_lang.specs.Symbols as definitions;
 ghost use Rattle.p9_numbering.specs.Told.{told_form, told_symbol, symbols_told};
 ghost use Rattle.p9_outline.specs.Held.{has_name};
 ghost use Rattle.p9_outline.specs.Summaries.{used_kind, makes_symbol, symbol_by, symbols_by, outer_symbols};
-ghost use Rattle.p9_outline.specs.Told.{told_first, told_known, told_entries};
+ghost use Rattle.p9_outline.specs.Told.{told_first, told_known, names_told, known_told};
 
 use crate::names::NameSet;
 use crate::summary::{Known, Names};
@@ -110,7 +110,7 @@ pub(crate) fn push_outers<'a>(
 ) -> Result<(), NoMemory>
     ensures { OnOk result ((m : Module) → symbols_told m symbols.new.items
         ≡ symbols_told m symbols.old.items
-        ++ outer_symbols (has_name statics.now.set.keys) (has_name used.now.set.keys) (told_entries m names.now.map.entries)) }
+        ++ outer_symbols (has_name statics.now.set.keys) (has_name used.now.set.keys) (known_told m names.now.map.entries) (names_told names.now.map.entries)) }
 {
     for at in 0..names.map.len() {
         if let Some((name, known)) = names.map.get_index(at) {
