@@ -11,7 +11,7 @@ use Rattle.p9_lang.specs.Symbols.{Declaration, SymbolKind}
 use Rattle.p9_numbering.proofs.Noting.{same_bytes}
 use Rattle.p9_outline.specs.declared.summary.Known.{Known}
 use Rattle.p9_outline.specs.Summaries.{Summary, unknown, with_one, summary_in, declare_one, declare_all}
-use Rattle.p9_outline.specs.Told.{told_known, told_entries}
+use Rattle.p9_outline.specs.Told.{told_known, told_entries, names_told}
 
 abbrev told_found : Module → Option Known → Option Summary
 told_found m None = None
@@ -68,3 +68,7 @@ pub declare_more : (tags : Tags) (es : List (List ℕ × Summary)) (ds more : Li
     → declare_all tags es (ds ++ more) ≡ declare_all tags (declare_all tags es ds) more
 declare_more tags es [] more = refl
 declare_more tags es (d ∷ ds) more = declare_more tags (declare_all tags es (d ∷ [])) ds more
+
+pub names_same : (m : Module) (es : List (Bor (List ℕ) × Known)) → names_told es ≡ map (λ e. e.0) (told_entries m es)
+names_same m [] = refl
+names_same m (e ∷ es) = ap (λ l. e.0.now ∷ l) (names_same m es)

@@ -1,5 +1,5 @@
 -- Walks over items and their parts, one after the other.
-use Rattle.std.proofs.Common.{◌≡◌, ℕ, Bool, true, false, ◌&&◌, List, [], ◌∷◌, ◌++◌, map, Option, Some, None, Result, Ok, refl, sym, ap, ◌∙◌, append_assoc, append-nil}
+use Rattle.std.proofs.Common.{◌≡◌, ℕ, Bool, true, false, ◌&&◌, List, [], ◌∷◌, ◌++◌, map, Option, Some, None, Result, Ok, MatchOption, subst, refl, sym, ap, ◌∙◌, append_assoc, append-nil}
 use Rattle.std.proofs.lemmas.List.{map-append}
 use Rattle.std.specs.Prelude.{if◌then◌else◌}
 use Rattle.p9_lang.specs.declared.tree.Kind.{Kind}
@@ -10,6 +10,10 @@ use Rattle.p9_lang.specs.Parts.{is_declarator}
 use Rattle.p9_lang.specs.Initialisers.{Write, Bytes, text_bytes, BrokenItem}
 use Rattle.p9_lang.specs.Modules.{Label, Typed, TypedRow}
 use Rattle.p9_lang.specs.Symbols.{Declaration, declarations_in, declarations, declared_by, declared_body, declares, way_of, label_type, name_label, initialiser, kind_of_node, Body, Symbol, LocalObject, local_symbol, local_objects_in, static_at, text_at, writes_of, is_declaration}
+use Rattle.p9_lang.specs.declared.module.Module.{Module}
+use Rattle.p9_nodes.specs.declared.nodes.TypedNode.{TypedNode}
+use Rattle.p9_nodes.specs.declared.nodes.NodeRow.{NodeRow}
+use Rattle.p9_nodes.specs.Nodes.{node_in, row_in}
 use Rattle.p9_outline.specs.Summaries.{Summary, declare_all}
 use Rattle.p9_outline.specs.Locals.{meant_object, object_of}
 use Rattle.p9_outline.proofs.Telling.{declare_more}
@@ -114,7 +118,6 @@ locals_passed tags declared row others parts k label s0 s1 s2 s3 all e a b c g =
     let inner = local_objects_in tags (is_declaration k) parts in
     let rest = local_objects_in tags declared others in
     ap (λ s. s ++ map local_symbol rest) (c ∙ ap (λ s. s ++ map local_symbol (text_at k label)) (b ∙ ap (λ s. s ++ map local_symbol inner) a))
-    ∙ append_assoc ((s0 ++ map local_symbol own) ++ map local_symbol inner) (map local_symbol (text_at k label)) (map local_symbol rest)
     ∙ joined_locals s0 own inner (text_at k label) rest
     ∙ ap (λ r. s0 ++ map local_symbol (local_objects_in tags declared r)) (sym e)
     ∙ g
@@ -123,3 +126,8 @@ pub locals_over : (tags : Tags) (declared : Bool) (row : TypedRow) (old all : Li
     → old ++ map local_symbol (local_objects_in tags declared row) ≡ all → old ≡ all
 locals_over tags declared row old all e g =
     sym (append-nil old) ∙ ap (λ r. old ++ map local_symbol (local_objects_in tags declared r)) (sym e) ∙ g
+
+-- nothing is split off
+pub split_none : (m : Module) (row : NodeRow) (o : Option (TypedNode × NodeRow))
+    → MatchOption o (row_in m row ≡ none) (λ q. row_in m row ≡ more (node_in m q.0) (row_in m q.1)) → o ≡ None → row_in m row ≡ none
+split_none m row o h e = subst (λ x. MatchOption x (row_in m row ≡ none) (λ q. row_in m row ≡ more (node_in m q.0) (row_in m q.1))) e h
