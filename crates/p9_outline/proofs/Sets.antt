@@ -17,7 +17,7 @@ or_assoc : (a b c : Bool) → (a || b) || c ≡ a || (b || c)
 or_assoc true b c = refl
 or_assoc false b c = refl
 
-or_false : (b : Bool) → b ≡ b || false
+pub or_false : (b : Bool) → b ≡ b || false
 or_false true = refl
 or_false false = refl
 
@@ -53,7 +53,7 @@ name_added eq same ks later k e q =
 
 -- names that are gone through
 
-among_append : (xs ys : List (List ℕ)) (q : List ℕ) → is_among (xs ++ ys) q ≡ is_among xs q || is_among ys q
+pub among_append : (xs ys : List (List ℕ)) (q : List ℕ) → is_among (xs ++ ys) q ≡ is_among xs q || is_among ys q
 among_append [] ys q = refl
 among_append (x ∷ xs) ys q = ap (λ b. same_name q x || b) (among_append xs ys q) ∙ sym (or_assoc (same_name q x) (is_among xs q) (is_among ys q))
 

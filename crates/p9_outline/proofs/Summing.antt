@@ -163,22 +163,26 @@ summary_inserted es k v q b e =
 pub summary_all : (tags : Tags) (ds done : List Declaration) (es : List (List ℕ × Summary)) (q : List ℕ) → summary_in q es ≡ summary_of tags done
     → summary_in q (declare_all tags es ds) ≡ summary_of tags (done ++ declarations_of q ds)
 summary_all tags [] done es q h = h ∙ ap (summary_of tags) (sym (append-nil done))
-summary_all tags (d ∷ ds) done es q h = by (same_name q d.name) refl
+summary_all tags (d ∷ ds) done es q h =
+    by (same_name q d.name) refl (summary_all tags ds (done ++ d ∷ []) later q) (summary_all tags ds done later q)
   where
     v : Summary
     v = with_one (summary_in d.name es) d.type (kind_by tags d.type d.way)
 
+    later : List (List ℕ × Summary)
+    later = insert_entry same_name es d.name v
+
     by : (b : Bool) → same_name q d.name ≡ b
-        → summary_in q (declare_all tags (declare_one es d.name d.type (kind_by tags d.type d.way)) ds)
-        ≡ summary_of tags (done ++ cond b (d ∷ declarations_of q ds) (declarations_of q ds))
-    by true e =
-        summary_all tags ds (done ++ d ∷ []) (declare_one es d.name d.type (kind_by tags d.type d.way)) q
+        → (summary_in q later ≡ summary_of tags (done ++ d ∷ []) → summary_in q (declare_all tags later ds) ≡ summary_of tags ((done ++ d ∷ []) ++ declarations_of q ds))
+        → (summary_in q later ≡ summary_of tags done → summary_in q (declare_all tags later ds) ≡ summary_of tags (done ++ declarations_of q ds))
+        → summary_in q (declare_all tags later ds) ≡ summary_of tags (done ++ cond b (d ∷ declarations_of q ds) (declarations_of q ds))
+    by true e with_it without =
+        with_it
         (summary_inserted es d.name v q true e
         ∙ ap (λ s. with_one s d.type (kind_by tags d.type d.way)) (ap (λ x. summary_in x es) (sym (same_to q d.name e)) ∙ h)
         ∙ summary_end tags done d)
         ∙ ap (summary_of tags) (append_assoc done (d ∷ []) (declarations_of q ds))
-    by false e =
-        summary_all tags ds done (declare_one es d.name d.type (kind_by tags d.type d.way)) q (summary_inserted es d.name v q false e ∙ h)
+    by false e with_it without = without (summary_inserted es d.name v q false e ∙ h)
 
 -- THE NAMES THAT ARE KNOWN
 
@@ -199,13 +203,16 @@ names_inserted (e ∷ es) k v = by (same_name k e.0) (is_among (names_in es) k) 
 
 new_names_same : (xs a b : List (List ℕ)) → ((q : List ℕ) → is_among a q ≡ is_among b q) → new_names a xs ≡ new_names b xs
 new_names_same [] a b h = refl
-new_names_same (x ∷ xs) a b h = by (is_among a x) (is_among b x) (h x)
+new_names_same (x ∷ xs) a b h =
+    by (is_among a x) (is_among b x) (h x) (new_names_same xs a b h)
+    (new_names_same xs (x ∷ a) (x ∷ b) (λ q. ap (λ t. same_name q x || t) (h q)))
   where
-    by : (c d : Bool) → c ≡ d → (if c then new_names a xs else x ∷ new_names (x ∷ a) xs) ≡ (if d then new_names b xs else x ∷ new_names (x ∷ b) xs)
-    by true true e = new_names_same xs a b h
-    by true false e = cc
-    by false true e = cc
-    by false false e = ap (λ l. x ∷ l) (new_names_same xs (x ∷ a) (x ∷ b) (λ q. ap (λ t. same_name q x || t) (h q)))
+    by : (c d : Bool) → c ≡ d → new_names a xs ≡ new_names b xs → new_names (x ∷ a) xs ≡ new_names (x ∷ b) xs
+        → (if c then new_names a xs else x ∷ new_names (x ∷ a) xs) ≡ (if d then new_names b xs else x ∷ new_names (x ∷ b) xs)
+    by true true e f g = f
+    by true false e f g = absurd (differ e)
+    by false true e f g = absurd (differ (sym e))
+    by false false e f g = ap (λ l. x ∷ l) g
 
 or_other : (a b : Bool) → a || (b || false) ≡ b || a
 or_other true true = refl
@@ -308,7 +315,7 @@ or_true false = refl
 
 all_met : (met : List ℕ → Bool) (known xs : List (List ℕ)) → ((q : List ℕ) → is_among xs q ≡ true → met q ≡ true) → filter met (new_names known xs) ≡ new_names known xs
 all_met met known [] h = refl
-all_met met known (x ∷ xs) h = by (is_among known x)
+all_met met known (x ∷ xs) h = by (is_among known x) (all_met met known xs rest) (all_met met (x ∷ known) xs rest)
   where
     rest : (q : List ℕ) → is_among xs q ≡ true → met q ≡ true
     rest q e = h q (ap (λ b. same_name q x || b) e ∙ or_true (same_name q x))
@@ -316,11 +323,12 @@ all_met met known (x ∷ xs) h = by (is_among known x)
     here : met x ≡ true
     here = h x (ap (λ b. b || is_among xs x) (same_from x x refl))
 
-    by : (b : Bool) → filter met (if b then new_names known xs else x ∷ new_names (x ∷ known) xs) ≡ (if b then new_names known xs else x ∷ new_names (x ∷ known) xs)
-    by true = all_met met known xs rest
-    by false =
+    by : (b : Bool) → filter met (new_names known xs) ≡ new_names known xs → filter met (new_names (x ∷ known) xs) ≡ new_names (x ∷ known) xs
+        → filter met (if b then new_names known xs else x ∷ new_names (x ∷ known) xs) ≡ (if b then new_names known xs else x ∷ new_names (x ∷ known) xs)
+    by true f g = f
+    by false f g =
         ap (λ b. cond b (x ∷ filter met (new_names (x ∷ known) xs)) (filter met (new_names (x ∷ known) xs))) here
-        ∙ ap (λ l. x ∷ l) (all_met met (x ∷ known) xs rest)
+        ∙ ap (λ l. x ∷ l) g
 
 names_met : (source : Source) → filter (is_met source) (system_names ++ new_names system_names (declared_names source)) ≡ symbol_names source
 names_met source =
