@@ -1,5 +1,5 @@
 -- The symbols of names of file scope, one after the other.
-use Rattle.std.proofs.Common.{◌≡◌, ℕ, zero, suc, ◌+◌, Bool, List, [], ◌∷◌, ◌++◌, Option, Some, None, bytes_eq, slice_get, drop, refl, sym, ap, ◌∙◌, append_assoc, append-nil, add-one}
+use Rattle.std.proofs.Common.{◌≡◌, ℕ, zero, suc, ◌+◌, Bool, List, [], ◌∷◌, ◌++◌, Some, bytes_eq, slice_get, drop, sym, ap, ◌∙◌, append_assoc, add-one}
 use Rattle.std.specs.Borrow.{Bor}
 use Rattle.std.specs.Map.{lookup}
 use Rattle.p9_lang.specs.declared.module.Module.{Module}

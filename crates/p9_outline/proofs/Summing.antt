@@ -1,5 +1,5 @@
 -- What declarations make of names, and the symbols that they are.
-use Rattle.std.proofs.Common.{◌≡◌, ℕ, Bool, true, false, ◌&&◌, ◌||◌, not, cond, List, [], ◌∷◌, ◌++◌, map, filter, Option, Some, None, unwrap_or, is_some, refl, sym, ap, ◌∙◌, append_assoc, append-nil}
+use Rattle.std.proofs.Common.{◌≡◌, ℕ, Bool, true, false, ◌&&◌, ◌||◌, cond, List, [], ◌∷◌, ◌++◌, map, filter, Option, Some, None, unwrap_or, is_some, refl, sym, ap, ◌∙◌, append_assoc, append-nil}
 use Rattle.std.specs.Prelude.{if◌then◌else◌, codes}
 use Rattle.std.specs.Map.{lookup}
 use Rattle.std.proofs.Math.Path.{fun_ext}
@@ -12,8 +12,8 @@ use Rattle.p9_lang.specs.Scopes.{system_names, system_type}
 use Rattle.p9_lang.specs.Modules.{Source, TypedRow}
 use Rattle.p9_lang.specs.Symbols.{Declaration, Way, Only, Tentative, Initial, Body, SymbolKind, DeclaredOnly, Used, Code, Data, Common, or_common, kind_of, first_type, declarations, declarations_of, declared_names, new_names, uses_in_row, symbol_names, symbol_of, is_symbol, Symbol, symbols, local_symbol, local_objects_in}
 use Rattle.p9_numbering.proofs.Noting.{same_bytes}
-use Rattle.p9_outline.specs.Summaries.{Summary, unknown, kind_by, joined, with_one, summary_in, declare_one, declare_all, used_kind, makes_symbol, symbol_by, symbols_by, outer_symbols}
-use Rattle.p9_outline.proofs.Sets.{among_append, or_false}
+use Rattle.p9_outline.specs.Summaries.{Summary, unknown, kind_by, joined, with_one, summary_in, declare_all, used_kind, symbol_by, symbols_by, outer_symbols}
+use Rattle.p9_outline.proofs.Sets.{among_append}
 
 -- NAMES
 

@@ -1,5 +1,5 @@
 -- Texts and block statics.
-use Rattle.std.specs.Prelude.{ℕ, List, [], ◌∷◌, Option, Result}
+use Rattle.std.specs.Prelude.{List, [], ◌∷◌, Option, Result}
 use Rattle.p9_lang.specs.Types.{TypeTree, Meant, Nothing, Outer, Static, Auto, EnumValue, TypeName}
 use Rattle.p9_lang.specs.Initialisers.{Write, BrokenItem}
 use Rattle.p9_lang.specs.Modules.{Label}

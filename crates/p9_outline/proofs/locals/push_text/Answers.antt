@@ -1,6 +1,5 @@
-use Rattle.std.proofs.Common.{◌≡◌, refl, sym, ap, ◌∙◌}
+use Rattle.std.proofs.Common.{◌≡◌, refl, ap, ◌∙◌}
 use Rattle.p9_lang.specs.declared.tree.Kind.TheVariants as kind
-use Rattle.p9_lang.specs.Types.{type_of}
 use Rattle.p9_lang.specs.Symbols.{text_at}
 use Rattle.p9_nodes.specs.Nodes.{label_of}
 use Rattle.p9_outline.proofs.Walking.{first_text, text_meant, behind}

@@ -1,4 +1,3 @@
-use Rattle.p9_lang.specs.Types.{meant}
 use Rattle.p9_nodes.specs.Nodes.{label_of, row_in}
 use Rattle.p9_nodes.proofs.Operands.{split_some}
 use Rattle.p9_outline.proofs.Sets.{node_used}
