@@ -1,2 +1,3 @@
 pub mod Clauses
-pub mod Members
+pub mod Arrows
+pub mod Operations

@@ -6,6 +6,7 @@ mod lowering;
 mod making;
 mod members;
 mod names;
+mod operands;
 
 pub use expressions::value;
 pub use lowering::Lowering;

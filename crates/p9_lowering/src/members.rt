@@ -25,7 +25,7 @@ fn found_offset(found: Found) -> Result<Option<u32>, NoMemory>
 }
 
 // Where a member stands in a structure.
-#[tactic(auto, using(crate::proofs::Members::no_structure))]
+#[tactic(auto, using(crate::proofs::Arrows::no_structure))]
 fn offset_in(
     alloc: Global,
     structure: &CType,
@@ -47,7 +47,7 @@ fn offset_in(
 }
 
 // Where a member stands in what a pointer points to.
-#[tactic(auto, using(crate::proofs::Members::no_pointer, crate::proofs::Members::pointed))]
+#[tactic(auto, using(crate::proofs::Arrows::no_pointer, crate::proofs::Arrows::pointed))]
 fn offset_behind(
     alloc: Global,
     pointer: &CType,
