@@ -1,3 +1,4 @@
 pub mod Clauses
 pub mod Arrows
 pub mod Operations
+pub mod Arguments

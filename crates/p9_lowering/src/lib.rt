@@ -8,6 +8,6 @@ mod members;
 mod names;
 mod operands;
 
-pub use expressions::value;
+pub use expressions::{place, value};
 pub use lowering::Lowering;
 pub use names::name_tree;

@@ -22,6 +22,9 @@ impl<'a> Lowering<'a> {
         ensures numbering { result.numbering.now ≡ numbering.now }
         ensures result_type { result.result_type.now ≡ result_type.now }
     {
-        Lowering { numbering, result_type }
+        Lowering {
+            numbering,
+            result_type,
+        }
     }
 }

@@ -72,7 +72,11 @@ fn named_tree<'a>(
 }
 
 /// A number that stands alone.
-pub(crate) fn number_leaf<'a>(lowering: &Lowering<'a>, expression: TypedNode<'a>, word: u32) -> TTree
+pub(crate) fn number_leaf<'a>(
+    lowering: &Lowering<'a>,
+    expression: TypedNode<'a>,
+    word: u32,
+) -> TTree
     ensures { tree_of result ≡ leaf_tree (row_in (module_of lowering.now) expression.entry.parts) (trees.Const word) }
 {
     if is_none(lowering.numbering.source, expression.parts) {

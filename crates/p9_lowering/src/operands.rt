@@ -40,7 +40,6 @@ fn is_null<'a>(
 }
 
 /// An expression's value as one of a type.
-#[tactic(auto, using(crate::proofs::Operations::passed_is))]
 pub(crate) fn passed_by<'a>(
     alloc: Global,
     lowering: &Lowering<'a>,
@@ -59,7 +58,6 @@ pub(crate) fn passed_by<'a>(
 }
 
 /// An expression's value, assigned to an lvalue of a type by its address.
-#[tactic(auto, using(crate::proofs::Operations::assigned_is))]
 pub(crate) fn assigned_by<'a>(
     alloc: Global,
     lowering: &Lowering<'a>,
@@ -79,7 +77,6 @@ pub(crate) fn assigned_by<'a>(
 }
 
 /// `op=`.
-#[tactic(auto, using(crate::proofs::Operations::updated_is))]
 pub(crate) fn updated_by<'a>(
     alloc: Global,
     lowering: &Lowering<'a>,
@@ -100,7 +97,6 @@ pub(crate) fn updated_by<'a>(
 }
 
 /// An operation on two words.
-#[tactic(auto, using(crate::proofs::Operations::binary_is))]
 pub(crate) fn binary_by<'a>(
     alloc: Global,
     lowering: &Lowering<'a>,
@@ -188,7 +184,6 @@ fn offset_of<'a>(
 }
 
 /// The address of a member.
-#[tactic(auto, using(crate::proofs::Operations::member_is))]
 pub(crate) fn member_by<'a>(
     alloc: Global,
     lowering: &Lowering<'a>,
