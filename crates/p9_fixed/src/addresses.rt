@@ -40,7 +40,7 @@ fn base_address<'a>(means: &'a Bind) -> Fixed<'a>
 
 // What an offset moves; of one beyond the limit it is told only that it is there.
 fn moved_inside<'a>(start: Fixed<'a>, offset: Option<u32>) -> Result<Fixed<'a>, NoMemory>
-    ensures { (n : ℕ) → offset ≡ kept_offset n → IfOk result (λ f. told_fixed f ≡ specs.moved (told_fixed start) n) }
+    ensures { (n : ℕ) → offset ≡ kept_offset n → IfOk result (λ f. told_fixed f ≡ specs.moved (told_fixed start.entry) n) }
 {
     match offset {
         Some(offset) => Ok(moved(start, offset)),
@@ -51,7 +51,7 @@ fn moved_inside<'a>(start: Fixed<'a>, offset: Option<u32>) -> Result<Fixed<'a>, 
 // The address of a member that is found, in a structure at an address.
 fn found_offset<'a>(start: Fixed<'a>, found: Found) -> Result<Fixed<'a>, NoMemory>
     ensures { (f : members.Found) → found ≡ without_type f
-        → IfOk result (λ x. told_fixed x ≡ specs.found_offset (told_fixed start) f) }
+        → IfOk result (λ x. told_fixed x ≡ specs.found_offset (told_fixed start.entry) f) }
 {
     match found {
         Found::At {
@@ -75,7 +75,7 @@ fn member_address<'a>(
 ) -> Result<Fixed<'a>, NoMemory>
     requires { NoneContainsItself (tags_of tags.now.list) }
     ensures { IfOk result (λ f. told_fixed f
-        ≡ specs.member_address (tags_of tags.now.list) name.now (type_of ty.now) (told_fixed start)) }
+        ≡ specs.member_address (tags_of tags.now.list) name.now (type_of ty.now) (told_fixed start.entry)) }
 {
     match number_of(ty) {
         Some(tag) => {
@@ -97,7 +97,7 @@ fn pointed_address<'a>(
 ) -> Result<Fixed<'a>, NoMemory>
     requires { NoneContainsItself (tags_of tags.now.list) }
     ensures { IfOk result (λ f. told_fixed f ≡ specs.member_address (tags_of tags.now.list) name.now
-        (specs.target_of (type_of ty.now)) (told_fixed start)) }
+        (specs.target_of (type_of ty.now)) (told_fixed start.entry)) }
 {
     match target_of(ty) {
         Some(target) => {
@@ -117,7 +117,7 @@ fn selected_address<'a>(
 ) -> Result<Fixed<'a>, NoMemory>
     requires { NoneContainsItself (tags_of tags.now.list) }
     ensures { IfOk result (λ f. told_fixed f
-        ≡ specs.selected_address (tags_of tags.now.list) arrow name.now (told_part a)) }
+        ≡ specs.selected_address (tags_of tags.now.list) arrow name.now (told_part a.entry)) }
 {
     if arrow {
         let ty = value_type(alloc, a.ty)?;
@@ -146,7 +146,7 @@ fn element_address<'a>(
 ) -> Result<Fixed<'a>, NoMemory>
     requires { NoneContainsItself (tags_of tags.now.list) }
     ensures { IfOk result (λ f. told_fixed f ≡ specs.fixed_sum (tags_of tags.now.list)
-        (decayed (type_of a.ty.now)) (decayed (type_of i.ty.now)) (told_fixed a.value) (told_fixed i.value)) }
+        (decayed (type_of a.entry.ty.now)) (decayed (type_of i.entry.ty.now)) (told_fixed a.entry.value) (told_fixed i.entry.value)) }
 {
     let left = value_type(alloc, a.ty)?;
     let right = value_type(alloc, i.ty)?;

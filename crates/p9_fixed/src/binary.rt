@@ -25,7 +25,7 @@ pub(crate) fn fixed_binary<'a>(
 ) -> Result<Fixed<'a>, NoMemory>
     requires { NoneContainsItself (tags_of tags.now.list) }
     ensures { IfOk result (λ f. told_fixed f ≡ fixed_binary (tags_of tags.now.list) op
-        (type_of left.now) (type_of right.now) (told_fixed a) (told_fixed b)) }
+        (type_of left.now) (type_of right.now) (told_fixed a.entry) (told_fixed b.entry)) }
 {
     match op {
         CBinary::Add => {

@@ -27,8 +27,8 @@ fn value_at<'a>(
     requires ends { NoneContainsItself (tags_of tags.now.list) }
     requires address { told_fixed address
         ≡ specs.address_at (tags_of tags.now.list) node.kind.now (meant node.means.now) (told_parts parts.now) }
-    ensures { IfOk result (λ f. told_fixed f ≡ specs.value_at (tags_of tags.now.list) node.kind.now
-        (type_of node.ty.now) (meant node.means.now) (told_parts parts.now)) }
+    ensures { IfOk result (λ f. told_fixed f ≡ specs.value_at (tags_of tags.now.list) node.entry.kind.now
+        (type_of node.entry.ty.now) (meant node.entry.means.now) (told_parts parts.now)) }
 {
     if is_array(node.ty) || is_function(node.ty) {
         return Ok(address);
@@ -46,7 +46,7 @@ fn fixed_at<'a>(
 ) -> Result<FixedPart<'a>, NoMemory>
     requires { NoneContainsItself (tags_of tags.now.list) }
     ensures { IfOk result (λ p. told_part p
-        ≡ specs.fixed_at (tags_of tags.now.list) node.kind.now (label_of node) (told_parts parts.now)) }
+        ≡ specs.fixed_at (tags_of tags.now.list) node.entry.kind.now (label_of node.entry) (told_parts parts.now)) }
 {
     let address = address_at(alloc, tags, node.kind, node.means, parts)?;
     let value = value_at(alloc, tags, node, address, parts)?;
@@ -72,7 +72,8 @@ fn parts_within<'a>(
     let mut parts = Vec::new(alloc);
     let mut rest = row;
     'parts: while let Some((part, others)) = split(source, rest)? {
-        parts.push(part_within(alloc, source, part, levels)?)?;
+        let here = part_within(alloc, source, part, levels)?;
+        parts.push(here)?;
         rest = others;
     }
     Ok(parts)
@@ -87,7 +88,7 @@ fn part_within<'a>(
 ) -> Result<FixedPart<'a>, NoMemory>
     requires { NoneContainsItself (tags_of source.now.typed.now.tags.list) }
     ensures { IfOk result (λ p. told_part p
-        ≡ part_in (tags_of source.now.typed.now.tags.list) (node_in source.now.typed.now node)) }
+        ≡ part_in (tags_of source.now.typed.now.tags.list) (node_in source.now.typed.now node.entry)) }
 {
     if levels == 0 {
         return Err(NoMemory);
@@ -107,7 +108,7 @@ pub fn fixed_part<'a>(
 ) -> Result<FixedPart<'a>, NoMemory>
     requires { NoneContainsItself (tags_of source.now.typed.now.tags.list) }
     ensures { IfOk result (λ p. told_part p
-        ≡ specs.fixed_part (tags_of source.now.typed.now.tags.list) (node_in source.now.typed.now node)) }
+        ≡ specs.fixed_part (tags_of source.now.typed.now.tags.list) (node_in source.now.typed.now node.entry)) }
 {
     let part = part_within(alloc, source, node, levels)?;
     Ok(part)

@@ -8,7 +8,7 @@ use p9_base::{word_negation, word_product, word_sum};
 
 /// What is moved by so many bytes.
 pub fn moved<'a>(start: Fixed<'a>, amount: u32) -> Fixed<'a>
-    ensures { told_fixed result ≡ moved (told_fixed start) amount }
+    ensures { told_fixed result ≡ moved (told_fixed start.entry) amount }
 {
     match start {
         Fixed::Number(word) => Fixed::Number(word_sum(word, amount)),
@@ -22,7 +22,7 @@ pub fn moved<'a>(start: Fixed<'a>, amount: u32) -> Fixed<'a>
 
 /// What so many elements of a size move forwards.
 pub(crate) fn moved_by<'a>(start: Fixed<'a>, size: u32, count: Fixed<'a>) -> Fixed<'a>
-    ensures { told_fixed result ≡ moved_by (told_fixed start) size (told_fixed count) }
+    ensures { told_fixed result ≡ moved_by (told_fixed start.entry) size (told_fixed count.entry) }
 {
     match count {
         Fixed::Number(count) => moved(start, word_product(count, size)),
@@ -32,7 +32,7 @@ pub(crate) fn moved_by<'a>(start: Fixed<'a>, size: u32, count: Fixed<'a>) -> Fix
 
 /// What so many elements of a size move backwards.
 pub(crate) fn moved_back<'a>(start: Fixed<'a>, size: u32, count: Fixed<'a>) -> Fixed<'a>
-    ensures { told_fixed result ≡ moved_back (told_fixed start) size (told_fixed count) }
+    ensures { told_fixed result ≡ moved_back (told_fixed start.entry) size (told_fixed count.entry) }
 {
     match count {
         Fixed::Number(count) => moved(start, word_negation(word_product(count, size))),

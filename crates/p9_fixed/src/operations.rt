@@ -38,7 +38,7 @@ pub(crate) fn number_operation<'a>(
     b: Fixed<'a>,
 ) -> Fixed<'a>
     ensures { told_fixed result
-        ≡ number_operation op (type_of left.now) (type_of right.now) (told_fixed a) (told_fixed b) }
+        ≡ number_operation op (type_of left.now) (type_of right.now) (told_fixed a.entry) (told_fixed b.entry) }
 {
     match a {
         Fixed::Number(x) => match b {

@@ -40,7 +40,7 @@ pub(crate) fn fixed_sum<'a>(
 ) -> Result<Fixed<'a>, NoMemory>
     requires { NoneContainsItself (tags_of tags.now.list) }
     ensures { IfOk result (λ f. told_fixed f ≡ fixed_sum (tags_of tags.now.list)
-        (type_of left.now) (type_of right.now) (told_fixed a) (told_fixed b)) }
+        (type_of left.now) (type_of right.now) (told_fixed a.entry) (told_fixed b.entry)) }
 {
     if is_pointer(left) {
         let size = pointed_size(alloc, tags, left)?;
@@ -56,7 +56,7 @@ pub(crate) fn fixed_sum<'a>(
 // How many elements two numbers of bytes are apart.
 fn apart<'a>(size: u32, a: Fixed<'a>, b: Fixed<'a>) -> Fixed<'a>
     ensures { told_fixed result
-        ≡ on_numbers (λ x y. whole_quotient (word_difference x y) size) (told_fixed a) (told_fixed b) }
+        ≡ on_numbers (λ x y. whole_quotient (word_difference x y) size) (told_fixed a.entry) (told_fixed b.entry) }
 {
     match a {
         Fixed::Number(x) => match b {
@@ -78,7 +78,7 @@ pub(crate) fn fixed_difference<'a>(
 ) -> Result<Fixed<'a>, NoMemory>
     requires { NoneContainsItself (tags_of tags.now.list) }
     ensures { IfOk result (λ f. told_fixed f ≡ fixed_difference (tags_of tags.now.list)
-        (type_of left.now) (type_of right.now) (told_fixed a) (told_fixed b)) }
+        (type_of left.now) (type_of right.now) (told_fixed a.entry) (told_fixed b.entry)) }
 {
     if is_pointer(right) {
         let size = pointed_size(alloc, tags, left)?;

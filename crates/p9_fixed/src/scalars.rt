@@ -21,7 +21,7 @@ use std::alloc::Global;
 // What an operator makes of a number.
 fn unary_word<'a>(op: CUnary, address: Fixed<'a>, word: u32) -> Fixed<'a>
     ensures { (type : TypeTree) → told_fixed result
-        ≡ specs.fixed_unary op (record { type = type; value = specs.Number word; address = told_fixed address }) }
+        ≡ specs.fixed_unary op (record { type = type; value = specs.Number word; address = told_fixed address.entry }) }
 {
     match op {
         CUnary::Address => address,
@@ -34,7 +34,7 @@ fn unary_word<'a>(op: CUnary, address: Fixed<'a>, word: u32) -> Fixed<'a>
 }
 
 fn fixed_unary<'a>(op: CUnary, a: FixedPart<'a>) -> Fixed<'a>
-    ensures { told_fixed result ≡ specs.fixed_unary op (told_part a) }
+    ensures { told_fixed result ≡ specs.fixed_unary op (told_part a.entry) }
 {
     match a.value {
         Fixed::Number(word) => unary_word(op, a.address, word),
@@ -47,7 +47,7 @@ fn fixed_unary<'a>(op: CUnary, a: FixedPart<'a>) -> Fixed<'a>
 }
 
 fn fixed_cast<'a>(ty: &CType, a: Fixed<'a>) -> Fixed<'a>
-    ensures { told_fixed result ≡ specs.fixed_cast (type_of ty.now) (told_fixed a) }
+    ensures { told_fixed result ≡ specs.fixed_cast (type_of ty.now) (told_fixed a.entry) }
 {
     if !is_integer(ty) {
         return a;
@@ -108,7 +108,7 @@ fn both_parts<'a>(
 ) -> Result<Fixed<'a>, NoMemory>
     requires { NoneContainsItself (tags_of tags.now.list) }
     ensures { IfOk result (λ f. told_fixed f ≡ specs.fixed_binary (tags_of tags.now.list) op
-        (decayed (type_of a.ty.now)) (decayed (type_of b.ty.now)) (told_fixed a.value) (told_fixed b.value)) }
+        (decayed (type_of a.entry.ty.now)) (decayed (type_of b.entry.ty.now)) (told_fixed a.entry.value) (told_fixed b.entry.value)) }
 {
     let left = value_type(alloc, a.ty)?;
     let right = value_type(alloc, b.ty)?;

@@ -14,8 +14,8 @@ part_within-returns t c =
 
 pub parts_within-parts-preserved : goal.parts_within-parts-preserved
 parts_within-parts-preserved t c =
-    parts_next (tags_of c.args.source.now.typed.now.tags.list) c.parts.parts.items c.push.new.self.items ?
+    parts_next (tags_of c.args.source.now.typed.now.tags.list) c.parts.parts.items c.push.new.self.items c.in_ok-here.here
     (row_in c.args.source.now.typed.now c.parts.rest) (row_in c.args.source.now.typed.now c.in-Some.others) _
     (node_in c.args.source.now.typed.now c.in-Some.part) c.parts.invariant
     (split_some c.args.source.now.typed.now c.parts.rest c.in_ok-part.field-0 (c.in-Some.part, c.in-Some.others) c.in_ok-part.ensures c.in-Some.is)
-    ? ?
+    c.in_ok-push.ensures.items c.in_ok-here.ensures
