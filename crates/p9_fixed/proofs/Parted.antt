@@ -1,9 +1,11 @@
 -- What nodes beside each other are, one after the other.
 use Rattle.std.proofs.Common.{◌≡◌, List, [], ◌∷◌, ◌++◌, refl, sym, ap, ◌∙◌, append_assoc, append-nil}
-use Rattle.p9_lang.specs.Types.{Tags}
+use Rattle.p9_lang.specs.Types.{Tags, Meant}
 use Rattle.p9_lang.specs.Trees.{node, none, more}
 use Rattle.p9_lang.specs.Modules.{Label, Typed, TypedRow}
 use Rattle.p9_lang.specs.declared.tree.Kind.{Kind}
+use Rattle.p9_lang.specs.declared.tree.Kind.TheVariants as kind
+use Rattle.p9_lang.specs.declared.tree.CUnary.{CUnary}
 use Rattle.p9_lang.specs.Initialisers as specs
 use Rattle.p9_fixed.specs.declared.kinds.FixedPart.{FixedPart}
 use Rattle.p9_fixed.specs.Told.{told_part, told_parts}
@@ -38,3 +40,8 @@ part_told tags k label row p ps h e = h ∙ ap (specs.fixed_at tags k label) e
 pub part_is : (tags : Tags) (t : Typed) (p : specs.FixedPart) → p ≡ part_in tags t → p ≡ specs.fixed_part tags t
 unfolding part_in
 part_is tags t p e = e
+
+-- an operator's address, by the operator alone
+pub unary_at : (tags : Tags) (k : Kind) (op : CUnary) (means : Meant) (parts : List specs.FixedPart) (f : specs.Fixed)
+    → k ≡ kind.Unary op → ((t : Tags) (m : Meant) → f ≡ specs.address_at t (kind.Unary op) m parts) → f ≡ specs.address_at tags k means parts
+unary_at tags k op means parts f e h = h tags means ∙ ap (λ x. specs.address_at tags x means parts) (sym e)

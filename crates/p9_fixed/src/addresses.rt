@@ -16,6 +16,7 @@ use crate::kinds::{Base, Fixed, FixedPart};
 use crate::moving::moved;
 use crate::parts::{one, two};
 use crate::pointers::fixed_sum;
+use crate::scalars::value_within;
 use p9_base::NoMemory;
 use p9_lang::{Bind, CType, CUnary, Ident, Kind, Tags};
 use p9_operand::value_type;
@@ -192,21 +193,12 @@ fn dot_address<'a>(
     }
 }
 
-fn pointed_at<'a>(parts: &[FixedPart<'a>]) -> Fixed<'a>
-    ensures { told_fixed result ≡ with_one (λ a. a.value) (told_parts parts.now) }
-{
-    match one(parts) {
-        Some(a) => a.value,
-        None => Fixed::NotFixed,
-    }
-}
-
 fn unary_address<'a>(op: CUnary, parts: &[FixedPart<'a>]) -> Fixed<'a>
     ensures { (tags : types.Tags) (means : types.Meant) → told_fixed result
         ≡ specs.address_at tags (kind.Unary op) means (told_parts parts.now) }
 {
     match op {
-        CUnary::Deref => pointed_at(parts),
+        CUnary::Deref => value_within(parts),
         CUnary::Address | CUnary::Plus | CUnary::Minus | CUnary::Complement | CUnary::Not =>
             Fixed::NotFixed,
     }

@@ -31,7 +31,13 @@ pub(crate) fn both_true<'a>(a: Fixed<'a>, b: Fixed<'a>) -> Fixed<'a>
         ≡ on_number (λ x. if x == 0 then Number 0 else fixed_truth (told_fixed b.entry)) (told_fixed a.entry) }
 {
     match a {
-        Fixed::Number(x) => { if x == 0 { Fixed::Number(0) } else { fixed_truth(b) } }
+        Fixed::Number(x) => {
+            if x == 0 {
+                Fixed::Number(0)
+            } else {
+                fixed_truth(b)
+            }
+        }
         Fixed::Address { .. } | Fixed::NotFixed => Fixed::NotFixed,
     }
 }
@@ -42,7 +48,13 @@ pub(crate) fn one_true<'a>(a: Fixed<'a>, b: Fixed<'a>) -> Fixed<'a>
         ≡ on_number (λ x. if x == 0 then fixed_truth (told_fixed b.entry) else Number 1) (told_fixed a.entry) }
 {
     match a {
-        Fixed::Number(x) => { if x == 0 { fixed_truth(b) } else { Fixed::Number(1) } }
+        Fixed::Number(x) => {
+            if x == 0 {
+                fixed_truth(b)
+            } else {
+                Fixed::Number(1)
+            }
+        }
         Fixed::Address { .. } | Fixed::NotFixed => Fixed::NotFixed,
     }
 }

@@ -99,7 +99,6 @@ fn part_within<'a>(
 }
 
 /// What an expression is before the program runs, if it is nested no more deeply than so many levels.
-#[tactic(auto, using(crate::proofs::Parted::part_is))]
 pub fn fixed_part<'a>(
     alloc: Global,
     source: &'a Source<'a>,

@@ -80,7 +80,8 @@ fn fixed_size<'a>(alloc: Global, tags: &Tags, ty: &CType) -> Result<Fixed<'a>, N
     }
 }
 
-fn value_within<'a>(parts: &[FixedPart<'a>]) -> Fixed<'a>
+/// The value of the one part.
+pub(crate) fn value_within<'a>(parts: &[FixedPart<'a>]) -> Fixed<'a>
     ensures { told_fixed result ≡ with_one (λ a. a.value) (told_parts parts.now) }
 {
     match one(parts) {
