@@ -1,6 +1,4 @@
-use Rattle.std.proofs.Common.{◌≡◌, sym, ap, ◌∙◌}
 use Rattle.p9_lang.specs.Types.{tags_of, meant}
-use Rattle.p9_lang.specs.Initialisers as specs
 use Rattle.p9_fixed.specs.Told.{told_fixed, told_parts}
 use Rattle.p9_fixed.proofs.Parted.{unary_at}
 use Rattle.p9_fixed.proofs.addresses.address_at.Goals as goal

@@ -1,4 +1,4 @@
-use Rattle.std.proofs.Common.{◌≡◌, ap, ◌∙◌}
+use Rattle.std.proofs.Common.{ap, ◌∙◌}
 use Rattle.p9_lang.specs.Types.{tags_of}
 use Rattle.p9_nodes.specs.Nodes.{label_of, node_in, row_in}
 use Rattle.p9_nodes.proofs.Operands.{split_some}
