@@ -1,5 +1,5 @@
 -- What the walk gives, by what its steps give.
-use Rattle.std.proofs.Common.{◌≡◌, ◌≢◌, ◌+◌, ◌==◌, ℕ, true, false, List, Option, Some, Result, Ok, Err, sym, ap, subst, ◌∙◌, arith}
+use Rattle.std.proofs.Common.{◌≡◌, ◌≢◌, ◌+◌, ◌==◌, ℕ, true, false, List, [], ◌∷◌, ◌++◌, Option, Some, Result, Ok, Err, refl, sym, ap, subst, ◌∙◌, arith}
 use Rattle.std.specs.Prelude.{if◌then◌else◌}
 use Rattle.std.proofs.lemmas.Bool.Decides.{nat_tests}
 use Rattle.p9_lang.specs.declared.tree.Kind.{Kind}
@@ -10,7 +10,7 @@ use Rattle.p9_lang.specs.Scopes.{Known, next_node}
 use Rattle.p9_lang.specs.Parts.{Context, Part, Frame, Judged, kind_at}
 use Rattle.p9_lang.specs.Opening.{context}
 use Rattle.p9_lang.specs.Declaring.{behind}
-use Rattle.p9_lang.specs.Typing.{judge, with_rules, role_rules}
+use Rattle.p9_lang.specs.Typing.{judge, judge_parts, with_rules, role_rules}
 use Rattle.p9_operand.specs.Least.{least, unless_at, earlier_of}
 use Rattle.p9_operand.specs.declared.rule.Rule as declared
 use Rattle.p9_operand.specs.Told.{told_rule}
@@ -158,3 +158,40 @@ pub node_counted : {A : Type 0} (inner : Result A TypingFault) (n : Node) (slice
     → Counts inner after (nodes + nodes_of (syntax_of n))
 node_counted inner n slice inside before after nodes e f g h =
     counts_with inner inside (0 + nodes_of_row (row_of slice)) after (nodes + nodes_of (syntax_of n)) (count_there n slice inside before after nodes e f g) h
+
+-- PARTS
+
+and_then_twice : {A B C E : Type 0} (r : Result A E) (g : A → Result B E) (h : B → Result C E) → and_then r (λ x. and_then (g x) h) ≡ and_then (and_then r g) h
+and_then_twice (Ok x) g h = refl
+and_then_twice (Err e) g h = refl
+
+row_there : (k : Kind) (f : Frame) (before : List Part) (rest after : List Node) (part : Node) (s : Known) → rest ≡ part ∷ after
+    → judge_parts k f before (row_of rest) s
+    ≡ and_then (judged_part k f before (syntax_of part) (row_of after) s) (λ q. judge_parts k f (before ++ q.0 ∷ []) (row_of after) q.1)
+row_there k f before rest after part s e =
+    ap (λ ns. judge_parts k f before (row_of ns) s) e
+    ∙ and_then_twice (judge (syntax_of part) (context k f before (kind_at (syntax_of part)) s) s)
+    (λ r. behind k f before r.0 (row_of after) r.1) (λ q. judge_parts k f (before ++ q.0 ∷ []) (row_of after) q.1)
+
+-- behind a part that is judged the others are
+pub parts_go_on : (k : Kind) (f : Frame) (before later : List Part) (rest after : List Node) (part : Node) (s next : Known) (q : Part) (all : Result (List Part × Known) Broken)
+    → rest ≡ part ∷ after → later ≡ before ++ q ∷ [] → judged_part k f before (syntax_of part) (row_of after) s ≡ Ok (q, next)
+    → judge_parts k f before (row_of rest) s ≡ all → judge_parts k f later (row_of after) next ≡ all
+parts_go_on k f before later rest after part s next q all e g h i =
+    ap (λ l. judge_parts k f l (row_of after) next) g
+    ∙ sym (row_there k f before rest after part s e ∙ ap (λ r. and_then r (λ x. judge_parts k f (before ++ x.0 ∷ []) (row_of after) x.1)) h)
+    ∙ i
+
+-- the fault of a part is that of all of them
+pub parts_broken : (b : TypingFault) (k : Kind) (f : Frame) (before : List Part) (rest after : List Node) (part : Node) (s : Known) (all : Result (List Part × Known) Broken)
+    → rest ≡ part ∷ after → judge_parts k f before (row_of rest) s ≡ all
+    → TellsBroken b (judged_part k f before (syntax_of part) (row_of after) s) → TellsBroken b all
+parts_broken b k f before rest after part s all e h t =
+    told_same b (sym (row_there k f before rest after part s e) ∙ h)
+    (fault_goes_on b (judged_part k f before (syntax_of part) (row_of after) s) (λ q. judge_parts k f (before ++ q.0 ∷ []) (row_of after) q.1) t)
+
+pub parts_counted : (rest after : List Node) (part : Node) (nodes later all : ℕ) → rest ≡ part ∷ after → nodes + nodes_of_row (row_of rest) ≡ all
+    → later ≡ nodes + nodes_of (syntax_of part) → later + nodes_of_row (row_of after) ≡ all
+parts_counted rest after part nodes later all e h i =
+    let k : nodes + (nodes_of (syntax_of part) + nodes_of_row (row_of after)) ≡ all = sym (ap (λ ns. nodes + nodes_of_row (row_of ns)) e) ∙ h in
+    omega arith

@@ -1,5 +1,5 @@
 -- What an operation answers, by equal answers.
-use Rattle.std.proofs.Common.{◌≡◌, ℕ, ◌+◌, Bool, true, false, List, [], ◌∷◌, Result, Ok, Err, refl, sym, ap, ◌∙◌}
+use Rattle.std.proofs.Common.{◌≡◌, ℕ, ◌+◌, true, false, List, [], ◌∷◌, Result, Ok, Err, sym, ◌∙◌}
 use Rattle.std.proofs.lemmas.Option.{slice_get-map}
 use Rattle.p9_lang.specs.Types.{TypeTree, Void, Static, TypeName}
 use Rattle.p9_lang.specs.Rules.{Rule, Broken}

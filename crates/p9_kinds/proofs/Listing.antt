@@ -1,7 +1,7 @@
 -- Parameters and members, a part at a time.
 use Rattle.std.specs.Prelude.{◌↔◌, IsTrue}
-use Rattle.std.proofs.Common.{◌≡◌, Bool, true, false, List, [], ◌∷◌, ◌++◌, map, reverse, refl, sym, ap, ◌∙◌, append_assoc}
-use Rattle.std.proofs.lemmas.List.{reverse-append}
+use Rattle.std.proofs.Common.{◌≡◌, Bool, true, false, List, [], ◌∷◌, ◌++◌, length, reverse, refl, sym, ap, ◌∙◌, append_assoc, arith}
+use Rattle.std.proofs.lemmas.List.{reverse-append, append-nil}
 use Rattle.p9_lang.specs.declared.types.Member.{Member}
 use Rattle.p9_lang.specs.Types.{TypeTree, MemberTree, member_of, members_of}
 use Rattle.p9_lang.specs.Parts as parts
@@ -66,6 +66,12 @@ pub members_step : (base : TypeTree) (xs ys all : List MemberTree) (old new : Li
     → old ≡ new ++ p ∷ [] → ys ≡ xs ++ declared_members base (part_of p ∷ [])
     → xs ++ declared_members base (parts_of (reverse old)) ≡ all → ys ++ declared_members base (parts_of (reverse new)) ≡ all
 members_step base xs ys all old new p e f g = one_more (declared_members base) xs ys all old new p (member_first base) e f g
+
+-- behind the last part
+pub all_members : (base : TypeTree) (xs all : List MemberTree) (left : List Part)
+    → length left ≡ 0 → xs ++ declared_members base (parts_of (reverse left)) ≡ all → xs ≡ all
+all_members base xs all [] e f = sym (append-nil xs) ∙ f
+all_members base xs all (p ∷ left) e f = absurd (omega arith)
 
 -- where some are declared, none is unnamed
 pub named_members : (base : TypeTree) (ms : List Member) (empty : Bool) → (IsTrue empty ↔ (ms ≡ [])) → empty ≡ false → members_of ms ≡ or_unnamed base (members_of ms)

@@ -1,7 +1,6 @@
 use Rattle.std.proofs.Common.{slice_get, ap, ◌∙◌}
 use Rattle.p9_operand.specs.Least.{least}
-use Rattle.p9_lang.specs.Typing.{test_rules, loop_test_rules, switch_rules, return_rules}
-use Rattle.p9_scopes.specs.State.{known_of}
+use Rattle.p9_lang.specs.Typing.{test_rules}
 use Rattle.p9_parts.specs.Told.{parts_of}
 use Rattle.p9_kinds.proofs.controls.judged_test.Goals as goal
 

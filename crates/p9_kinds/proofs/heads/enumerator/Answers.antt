@@ -1,7 +1,6 @@
 use Rattle.std.proofs.Common.{ℕ, List, [], ap, ◌∙◌}
 use Rattle.std.specs.Option.{option_map}
-use Rattle.p9_lang.specs.declared.types.CType.TheVariants as ctype
-use Rattle.p9_lang.specs.Types.{TypeTree, Int, Nothing, type_of}
+use Rattle.p9_lang.specs.Types.{TypeTree, Int, Nothing}
 use Rattle.p9_lang.specs.Parts.{Enumerator}
 use Rattle.p9_lang.specs.Typing.{has}
 use Rattle.p9_operand.specs.Told.{told_constant}
