@@ -4,4 +4,4 @@
 
 mod laws;
 
-pub use laws::{items_name_integers, known_rows_are_found};
+pub use laws::{items_name_integers, known_rows_are_found, typed_statics_are_found};
