@@ -1,5 +1,0 @@
-pub mod Nodes
-pub mod BodyNames
-pub mod StaticNames
-pub mod Marks
-pub mod Walking
