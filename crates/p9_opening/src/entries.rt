@@ -35,9 +35,9 @@ pub fn is_index_next(by: &EntryBy, before: &[Part]) -> bool
     }
 }
 
-// The type of what an entry fills, if there is a place for it.
+/// The type of what an entry of a list of this type fills, if there is a place for it.
 #[tactic(auto, using(p9_types::proofs::Shapes::shapes))]
-fn filled<'a>(
+pub fn filled<'a>(
     alloc: Global,
     tags: &'a Tags,
     list: &'a CType,
@@ -140,10 +140,33 @@ fn named_position(tags: &Tags, list: &CType, next: u32, name: &Ident) -> Result<
     }
 }
 
+/// The position that an entry of a list of this type goes to.
+pub fn listed_position(
+    tags: &Tags,
+    list: Option<&CType>,
+    next: u32,
+    by: &EntryBy,
+    parts: &[Part],
+) -> Result<u32, NoMemory>
+    ensures { IfOk result (λ position.
+        position ≡ specs.entry_position (tags_of tags.now.list) (type_in (option_copied list.entry)) next by.now (parts_of parts.now)) }
+{
+    match by {
+        EntryBy::Nothing => Ok(next),
+        EntryBy::Index => Ok(constant_or_zero(first_constant(parts))),
+        EntryBy::Member(name) => match list {
+            Some(list) => {
+                let position = named_position(tags, list, next, name)?;
+                Ok(position)
+            }
+            None => Ok(next),
+        },
+    }
+}
+
 /// The position that an entry goes to.
 pub fn entry_position(
     known: &Known,
-    alloc: Global,
     list: Option<&CType>,
     next: u32,
     by: &EntryBy,
@@ -152,18 +175,8 @@ pub fn entry_position(
     ensures { IfOk result (λ position.
         position ≡ specs.entry_position (known_of known.now).tags (type_in (option_copied list.entry)) next by.now (parts_of parts.now)) }
 {
-    let _ = alloc;
-    match by {
-        EntryBy::Nothing => Ok(next),
-        EntryBy::Index => Ok(constant_or_zero(first_constant(parts))),
-        EntryBy::Member(name) => match list {
-            Some(list) => {
-                let position = named_position(known.tags(), list, next, name)?;
-                Ok(position)
-            }
-            None => Ok(next),
-        },
-    }
+    let position = listed_position(known.tags(), list, next, by, parts)?;
+    Ok(position)
 }
 
 fn scalar_entry_rules(by: &EntryBy) -> Option<Rule>

@@ -10,5 +10,5 @@ mod opening;
 mod structures;
 
 pub use asking::{asked, has_spec, is_declarator, is_in_braces, lent};
-pub use entries::{entry_position, entry_role, entry_rule, is_index_next};
+pub use entries::{entry_position, entry_role, entry_rule, filled, is_index_next, listed_position};
 pub use opening::opened;

@@ -1,0 +1,3 @@
+pub mod Told
+pub mod Maps
+pub mod Numbered

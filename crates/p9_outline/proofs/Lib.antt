@@ -1,0 +1,5 @@
+pub mod Sets
+pub mod Telling
+pub mod Walking
+pub mod Pushing
+pub mod Summing
