@@ -29,13 +29,14 @@ fn token_of(nodes: &[Node], count: &mut usize, number: usize, levels: u32) -> Op
     None
 }
 
-fn name_of(rule: &Rule) -> &[u8] {
+// Whether a rule tells this name, or none where the name is empty.
+fn is_named(rule: &Rule, name: &str) -> bool {
     match rule {
-        Rule::Ambiguous(name)
-        | Rule::Undeclared(name)
-        | Rule::Redeclared(name)
-        | Rule::NoMember(name) => name.list.as_slice(),
-        _ => b"".as_slice(),
+        Rule::Ambiguous(told)
+        | Rule::Undeclared(told)
+        | Rule::Redeclared(told)
+        | Rule::NoMember(told) => told.list.as_slice() == name.as_bytes(),
+        _ => name.is_empty(),
     }
 }
 
@@ -280,7 +281,7 @@ fn rules_are_told(rt: HostRuntime) -> Result<(), Fail> {
             Err(TypingFault::Broken { node, rule }) => {
                 assert_eq!(rt; rule.number(), number, "{text}");
                 assert_eq!(rt; line_of(alloc, text, node)?, line, "{text}");
-                assert!(rt; name_of(&rule) == name.as_bytes(), "{text}");
+                assert!(rt; is_named(&rule, name), "{text}");
             }
             Ok(_) | Err(TypingFault::Memory) => assert!(rt; false, "{text}"),
         }
