@@ -3,7 +3,7 @@ use crate::programs::{LIB, PROGRAMS, WC, WC_HEADER};
 use crate::support::{lexed, read, read_text, store};
 use p9_declare::TypingFault;
 use p9_judge::type_file;
-use p9_lang::{Node, Tree};
+use p9_lang::{Module, Node, Tree};
 use p9_operand::Rule;
 use std::alloc::Global;
 use std::test::Fail;
@@ -56,6 +56,17 @@ fn line_of(alloc: Global, text: &str, node: usize) -> Result<u32, Fail> {
     match tokens.list.as_slice().get(token as usize) {
         Some(token) => Ok(token.line),
         None => Err(Fail::from("no token")),
+    }
+}
+
+// The node that breaks a rule, with the rule.
+fn broken(typed: Result<Module, TypingFault>) -> Option<(usize, Rule)> {
+    match typed {
+        Ok(_module) => None,
+        Err(fault) => match fault {
+            TypingFault::Broken { node, rule } => Some((node, rule)),
+            TypingFault::Memory => None,
+        },
     }
 }
 
@@ -277,14 +288,12 @@ fn rules_are_told(rt: HostRuntime) -> Result<(), Fail> {
         ("void f(void){ return 1; }", 25, 1, ""),
         ("int f(void){\n  return;\n}", 25, 2, ""),
     ] {
-        match type_file(alloc, tree_of(alloc, text)?) {
-            Err(TypingFault::Broken { node, rule }) => {
-                assert_eq!(rt; rule.number(), number, "{text}");
-                assert_eq!(rt; line_of(alloc, text, node)?, line, "{text}");
-                assert!(rt; is_named(&rule, name), "{text}");
-            }
-            Ok(_) | Err(TypingFault::Memory) => assert!(rt; false, "{text}"),
-        }
+        let Some((node, rule)) = broken(type_file(alloc, tree_of(alloc, text)?)) else {
+            return Err(Fail::from("not refused"));
+        };
+        assert_eq!(rt; rule.number(), number, "{text}");
+        assert_eq!(rt; line_of(alloc, text, node)?, line, "{text}");
+        assert!(rt; is_named(&rule, name), "{text}");
     }
     Ok(())
 }
