@@ -19,5 +19,3 @@ mod tree_build;
 mod tree_reader;
 #[cfg(test)]
 mod trees;
-#[cfg(test)]
-mod typed;

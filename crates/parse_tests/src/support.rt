@@ -64,8 +64,3 @@ pub fn read(alloc: Global, files: &mut MemFiles) -> Result<Result<Tree, ParseFau
 pub fn read_text(alloc: Global, text: &str) -> Result<Result<Tree, ParseFault>, Fail> {
     tree(alloc, &lex(alloc, text.as_bytes(), Dialect::C)?)
 }
-
-/// The tokens of a text without directives.
-pub fn lexed(alloc: Global, text: &str) -> Result<Tokens, Fail> {
-    Ok(lex(alloc, text.as_bytes(), Dialect::C)?)
-}

@@ -1,4 +1,0 @@
-pub mod Places
-pub mod Known
-pub mod Laws
-pub mod Levels
