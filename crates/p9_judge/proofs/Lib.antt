@@ -1,0 +1,5 @@
+pub mod Nodes
+pub mod BodyNames
+pub mod StaticNames
+pub mod Marks
+pub mod Walking
